@@ -9,7 +9,7 @@ use Rattle.decision_explanation.specs.Explanations.{evidence_explanation, undeci
 -- what explains it
 abbrev pub explained_by : TraceValue → Decision → List ℕ
 explained_by t (Decided e) = evidence_explanation t e
-explained_by t (Undecided cases) = undecided_explanation cases
+explained_by t (Undecided steps) = undecided_explanation steps
 
 abbrev pub decision_explained : SaidOfDecision
 decision_explained t d = decision_head t d ++ explained_by t d

@@ -27,8 +27,8 @@ evidence_explanation t (Unwritten n) = explanation_text t (Some (UnwrittenLoad n
 evidence_explanation t (Order order) = order_text t order
 evidence_explanation t (Refutation lines) = refutation_explanation t lines
 
--- that the search ended after this many cases, and that this shows nothing
+-- that the search ended after this many steps, and that this shows nothing
 unfoldable pub undecided_explanation : ℕ → List ℕ
-undecided_explanation cases = joined (
-    codes "\nThe search ended after " ∷ decimal cases
-    ∷ codes " cases, with neither a memory order of this trace nor a refutation.\nThat does not show whether there is a memory order. A greater --effort looks at more cases.\n" ∷ [])
+undecided_explanation steps = joined (
+    codes "\nThe search ended after " ∷ decimal steps
+    ∷ codes " steps, with neither a memory order of this trace nor a refutation.\nThat does not show whether there is a memory order. A greater --effort allows more steps.\n" ∷ [])

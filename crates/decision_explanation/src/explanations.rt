@@ -47,16 +47,16 @@ fn push_refutation(
     }
 }
 
-/// Appends that the search ended after this many cases without a memory order and without a refutation, and that this shows
+/// Appends that the search ended after this many steps without a memory order and without a refutation, and that this shows
 /// nothing. It follows the verdict of a decision.
 ///
 /// OutOfMemory where an allocation was refused.
 #[tactic(auto, unfolding(crate::specs::Explanations::undecided_explanation))]
-pub fn explain_undecided(text: &mut String, cases: u64) -> Result<(), AllocError>
-    ensures { OnOk result (string_bytes text.new ≡ string_bytes text.old ++ undecided_explanation cases) }
+pub fn explain_undecided(text: &mut String, steps: u64) -> Result<(), AllocError>
+    ensures { OnOk result (string_bytes text.new ≡ string_bytes text.old ++ undecided_explanation steps) }
 {
     write!(
         text,
-        "\nThe search ended after {cases} cases, with neither a memory order of this trace nor a refutation.\nThat does not show whether there is a memory order. A greater --effort looks at more cases.\n"
+        "\nThe search ended after {steps} steps, with neither a memory order of this trace nor a refutation.\nThat does not show whether there is a memory order. A greater --effort allows more steps.\n"
     )
 }

@@ -54,6 +54,6 @@ fn explain_decision(
 {
     match decision {
         Decision::Decided(evidence) => explain_evidence(alloc, text, trace, evidence),
-        Decision::Undecided(cases) => explain_undecided(text, *cases),
+        Decision::Undecided(steps) => explain_undecided(text, *steps),
     }
 }

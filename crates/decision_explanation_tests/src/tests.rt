@@ -53,7 +53,7 @@ fn evidence(rt: HostRuntime) -> Result<(), Fail> {
 }
 
 const UNDECIDED: &str =
-    "\nThe search ended after 1000 cases, with neither a memory order of this trace nor a refutation.\nThat does not show whether there is a memory order. A greater --effort looks at more cases.\n";
+    "\nThe search ended after 1000 steps, with neither a memory order of this trace nor a refutation.\nThat does not show whether there is a memory order. A greater --effort allows more steps.\n";
 
 #[test]
 fn undecided(rt: HostRuntime) -> Result<(), Fail> {

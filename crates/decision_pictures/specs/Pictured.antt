@@ -6,4 +6,4 @@ use Rattle.decision_pictures.specs.Pictures.{evidence_picture, undecided_picture
 -- by its evidence, or with none
 abbrev pub decision_pictured : SaidOfDecision
 decision_pictured t (Decided e) = evidence_picture t e
-decision_pictured t (Undecided cases) = undecided_picture t
+decision_pictured t (Undecided steps) = undecided_picture t

@@ -15,7 +15,7 @@ status_of_answer Undecided = 1
 status_of_answer Refused = 2
 status_of_answer Violation = 3
 
--- the decision in this form, after at most so many cases, on the only trace of a reader's bytes, or on the one of this number
+-- the decision in this form, after at most so many steps, on the only trace of a reader's bytes, or on the one of this number
 abbrev pub IsDecided : Presentation → ℕ → Option ℕ → Option (List ℕ) → List ℕ → Answer → Type 0
 IsDecided presentation effort nth remaining text answer =
     ReadsAs remaining (λ input. IsSaidOfNth Refused nth (IsDecisionOf (decided_as presentation) (refused_as presentation) effort) input text answer)

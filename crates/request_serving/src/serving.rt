@@ -56,7 +56,7 @@ const _: () = prove!(command_line::MAX_WORKERS == MAX_WORKERS);
 /// picture of the verdict. Where the request names a number, it judges that one of the traces that stand there one after the
 /// other, or writes `REFUSED Nth`, with status 2, where there are fewer; so do `Decide`, `Reduce`, `Check` and `Verify`.
 /// `Decide` writes an order of the trace that meets the axioms of its memory model, or a refutation of all orders, or that
-/// neither was found with as many cases as the request names; or the explanation or the picture of that. `Reduce` writes a
+/// neither was found with as many steps as the request names; or the explanation or the picture of that. `Reduce` writes a
 /// small trace that shows the violation of the trace, with lines on its operations to `errors`. `Batch` writes a line for each
 /// of the traces of texts, by a verdict or a decision, or the texts of those that are violations, with their numbers to
 /// `errors`. `Log` writes the violations of a log, or their traces. `Check` checks a certificate against a trace and writes

@@ -67,7 +67,7 @@ pieces_text-push way number ps rs p r are =
 kept_text : (way : TextPrinting) (number : ℕ) (p : List ℕ) (r : Judgment) → IsJudgment way.printing.method p r → piece_text way number (take trace_read_limit p) r ≡ piece_text way number p r
 kept_text way number p NoViolation is = refl
 kept_text way number p Consistent is = refl
-kept_text way number p (Undecided cases) is = refl
+kept_text way number p (Undecided steps) is = refl
 kept_text way number p Violation is = ap (λ bytes. piece_text way number bytes Violation) (kept_violation way.printing.method p is)
 kept_text way number p (Refused fault) is = refl
 

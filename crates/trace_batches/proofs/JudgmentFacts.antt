@@ -21,7 +21,7 @@ use Rattle.trace_reports.specs.Renderings.{IsTextOfTrace}
 use Rattle.trace_reports.specs.RefusalLines.{refusal_text}
 use Rattle.trace_reports.specs.Reports.{IsReport, refusal_shown, reported}
 use Rattle.trace_reports.specs.Violations.{IsViolation}
-use Rattle.trace_reports.proofs.RenderingFacts.{refused_exactly, some_text, trace_verdict, trace_violation, violation_exactly}
+use Rattle.trace_reports.proofs.RenderingFacts.{refused_exactly, some_text, trace_no_order, trace_verdict, trace_violation, violation_exactly}
 use Rattle.trace_judging.specs.Limits.{trace_read_limit}
 use Rattle.trace_judging.proofs.InputFacts.{refusal_of_prefix, spells_of_prefix}
 use Rattle.trace_batches.specs.declared.batches.BatchMethod.{BatchMethod}
@@ -45,19 +45,23 @@ pub said_of_piece : (method : BatchMethod) (piece : List ℕ) (t : TraceValue) (
 said_of_piece method piece t NoViolation spells said = (t, spells, said)
 said_of_piece method piece t Violation spells said = (t, spells, said)
 said_of_piece method piece t Consistent spells said = (t, spells, said)
-said_of_piece method piece t (Undecided cases) spells said = (t, spells, said)
+said_of_piece method piece t (Undecided steps) spells said = (t, spells, said)
 said_of_piece Judge piece t (Refused fault) spells said = absurd said
 said_of_piece (Decide effort) piece t (Refused fault) spells said = absurd said
+
+-- a trace of which a text says so is no violation
+not_violation : (t : TraceValue) (text : List ℕ) (v : Verdict) → IsTextOfTrace reported t text v → v ≡ verdict.NoViolation → IsViolation t → ⊥
+not_violation t text v is e violation = other (sym e ∙ (trace_violation t text v is).1 violation)
+  where
+    other : verdict.NoViolation ≡ verdict.Violation → ⊥
+    other same = absurd cc
 
 some_by_rules : (piece : List ℕ) → (judgment : Judgment) × IsJudgment Judge piece judgment
 some_by_rules piece = by (some_text reported refusal_shown piece)
   where
     of_trace : (t : TraceValue) (text : List ℕ) (v : Verdict) → SpellsTrace piece t → IsTextOfTrace reported t text v → (v ≡ verdict.Violation) ⊎ (v ≡ verdict.NoViolation) → (judgment : Judgment) × IsJudgment Judge piece judgment
     of_trace t text v spells is (inl e) = (Violation, (t, spells, (trace_violation t text v is).0 e))
-    of_trace t text v spells is (inr e) = (NoViolation, (t, spells, λ violation. other (sym e ∙ (trace_violation t text v is).1 violation)))
-      where
-        other : verdict.NoViolation ≡ verdict.Violation → ⊥
-        other same = absurd cc
+    of_trace t text v spells is (inr e) = (NoViolation, (t, spells, not_violation t text v is e))
 
     of_input : (text : List ℕ) (v : Verdict) → IsReport piece text v → (judgment : Judgment) × IsJudgment Judge piece judgment
     of_input text v (inl p) = of_trace p.0 text v p.1 p.2 (trace_verdict p.0 text v p.2)
@@ -66,12 +70,20 @@ some_by_rules piece = by (some_text reported refusal_shown piece)
     by : (text : List ℕ) × (v : Verdict) × IsReport piece text v → (judgment : Judgment) × IsJudgment Judge piece judgment
     by report = of_input report.0 report.1 report.2
 
--- a trace may stay undecided
+-- a trace that is no violation may stay undecided
 some_by_decision : (effort : ℕ) (piece : List ℕ) → (judgment : Judgment) × IsJudgment (Decide effort) piece judgment
-some_by_decision effort piece = elim (trace_laws.either piece) [
-  | inl spelled ↦ (Undecided effort, (spelled.0, spelled.1, refl))
-  | inr refused ↦ (Refused (record { line = refused.0; why = refused.1 }), refused.2)
-]
+some_by_decision effort piece = by (some_text reported refusal_shown piece)
+  where
+    of_trace : (t : TraceValue) (text : List ℕ) (v : Verdict) → SpellsTrace piece t → IsTextOfTrace reported t text v → (v ≡ verdict.Violation) ⊎ (v ≡ verdict.NoViolation) → (judgment : Judgment) × IsJudgment (Decide effort) piece judgment
+    of_trace t text v spells is (inl e) = (Violation, (t, spells, trace_no_order t text v spells.0 is e))
+    of_trace t text v spells is (inr e) = (Undecided effort, (t, spells, (refl, not_violation t text v is e)))
+
+    of_input : (text : List ℕ) (v : Verdict) → IsReport piece text v → (judgment : Judgment) × IsJudgment (Decide effort) piece judgment
+    of_input text v (inl p) = of_trace p.0 text v p.1 p.2 (trace_verdict p.0 text v p.2)
+    of_input text v (inr p) = (Refused (record { line = p.0; why = p.1 }), p.2)
+
+    by : (text : List ℕ) × (v : Verdict) × IsReport piece text v → (judgment : Judgment) × IsJudgment (Decide effort) piece judgment
+    by report = of_input report.0 report.1 report.2
 
 pub some_judgment : (method : BatchMethod) (piece : List ℕ) → (judgment : Judgment) × IsJudgment method piece judgment
 some_judgment Judge piece = some_by_rules piece
@@ -93,19 +105,19 @@ spelled_not_refused X piece t f spells refused = absurd (trace_laws.not_both pie
 
 pub one_judgment : (piece : List ℕ) (judgment other : Judgment) → IsJudgment Judge piece judgment → IsJudgment Judge piece other → judgment ≡ other
 one_judgment piece Consistent other first second = absurd first.2
-one_judgment piece (Undecided cases) other first second = absurd first.2
+one_judgment piece (Undecided steps) other first second = absurd first.2
 one_judgment piece NoViolation Consistent first second = absurd second.2
-one_judgment piece NoViolation (Undecided cases) first second = absurd second.2
+one_judgment piece NoViolation (Undecided steps) first second = absurd second.2
 one_judgment piece NoViolation NoViolation first second = refl
 one_judgment piece NoViolation Violation first second = absurd (first.2 (subst IsViolation (trace_laws.one_value piece second.0 first.0 second.1 first.1) second.2))
 one_judgment piece NoViolation (Refused f) first second = spelled_not_refused (NoViolation ≡ Refused f) piece first.0 f first.1 second
 one_judgment piece Violation Consistent first second = absurd second.2
-one_judgment piece Violation (Undecided cases) first second = absurd second.2
+one_judgment piece Violation (Undecided steps) first second = absurd second.2
 one_judgment piece Violation NoViolation first second = absurd (second.2 (subst IsViolation (trace_laws.one_value piece first.0 second.0 first.1 second.1) first.2))
 one_judgment piece Violation Violation first second = refl
 one_judgment piece Violation (Refused f) first second = spelled_not_refused (Violation ≡ Refused f) piece first.0 f first.1 second
 one_judgment piece (Refused f) Consistent first second = absurd second.2
-one_judgment piece (Refused f) (Undecided cases) first second = absurd second.2
+one_judgment piece (Refused f) (Undecided steps) first second = absurd second.2
 one_judgment piece (Refused f) NoViolation first second = spelled_not_refused (Refused f ≡ NoViolation) piece second.0 f second.1 first
 one_judgment piece (Refused f) Violation first second = spelled_not_refused (Refused f ≡ Violation) piece second.0 f second.1 first
 one_judgment piece (Refused f) (Refused g) first second = one_refused piece f g first second
@@ -115,8 +127,8 @@ abbrev pub AreAlike : Judgment → Judgment → Type 0
 AreAlike judgment other = (says_undecided judgment ≡ true) ⊎ (says_undecided other ≡ true) ⊎ (judgment ≡ other)
 
 pub one_decision : (effort : ℕ) (piece : List ℕ) (judgment other : Judgment) → IsJudgment (Decide effort) piece judgment → IsJudgment (Decide effort) piece other → AreAlike judgment other
-one_decision effort piece (Undecided cases) other first second = inl refl
-one_decision effort piece judgment (Undecided cases) first second = inr (inl refl)
+one_decision effort piece (Undecided steps) other first second = inl refl
+one_decision effort piece judgment (Undecided steps) first second = inr (inl refl)
 one_decision effort piece NoViolation other first second = absurd first.2
 one_decision effort piece Consistent NoViolation first second = absurd second.2
 one_decision effort piece Violation NoViolation first second = absurd second.2
@@ -137,7 +149,7 @@ pub verdict_said : (piece text : List ℕ) (v : Verdict) (judgment : Judgment) �
 verdict_said piece text v Violation report is = (violation_exactly reported refusal_shown piece text v report).1 is
 verdict_said piece text v (Refused f) report is = (refused_exactly reported refusal_shown piece text v report).1 (f.line, f.why, is)
 verdict_said piece text v Consistent report is = absurd is.2
-verdict_said piece text v (Undecided cases) report is = absurd is.2
+verdict_said piece text v (Undecided steps) report is = absurd is.2
 verdict_said piece text v NoViolation (inl p) is =
     ⊎_elim
     (λ (e : v ≡ verdict.Violation). absurd (is.2 (subst IsViolation (trace_laws.one_value piece p.0 is.0 p.1 is.1) ((trace_violation p.0 text v p.2).0 e))))
@@ -165,7 +177,7 @@ pub judgment_of_prefix : (method : BatchMethod) (piece : List ℕ) (judgment : J
 judgment_of_prefix method piece NoViolation is = (is.0, spells_of_prefix piece is.0 is.1, is.2)
 judgment_of_prefix method piece Violation is = (is.0, spells_of_prefix piece is.0 is.1, is.2)
 judgment_of_prefix method piece Consistent is = (is.0, spells_of_prefix piece is.0 is.1, is.2)
-judgment_of_prefix method piece (Undecided cases) is = (is.0, spells_of_prefix piece is.0 is.1, is.2)
+judgment_of_prefix method piece (Undecided steps) is = (is.0, spells_of_prefix piece is.0 is.1, is.2)
 judgment_of_prefix method piece (Refused f) is = refusal_of_prefix piece f.line f.why is
 
 -- the same of a piece that spells a trace, of which all is kept
@@ -176,7 +188,7 @@ prefix_of_judgment : (method : BatchMethod) (piece : List ℕ) (judgment : Judgm
 prefix_of_judgment method piece NoViolation is = of_spelled piece (λ bytes. IsJudgment method bytes NoViolation) is.0 is.1 is
 prefix_of_judgment method piece Violation is = of_spelled piece (λ bytes. IsJudgment method bytes Violation) is.0 is.1 is
 prefix_of_judgment method piece Consistent is = of_spelled piece (λ bytes. IsJudgment method bytes Consistent) is.0 is.1 is
-prefix_of_judgment method piece (Undecided cases) is = of_spelled piece (λ bytes. IsJudgment method bytes (Undecided cases)) is.0 is.1 is
+prefix_of_judgment method piece (Undecided steps) is = of_spelled piece (λ bytes. IsJudgment method bytes (Undecided steps)) is.0 is.1 is
 prefix_of_judgment method piece (Refused f) is =
     let kept = some_by_rules (take trace_read_limit piece) in
     let same : kept.0 ≡ Refused f = one_judgment piece kept.0 (Refused f) (judgment_of_prefix Judge piece kept.0 kept.1) is in

@@ -40,7 +40,7 @@ all_counted (j ∷ judgments) =
     one said.NoViolation = refl
     one said.Violation = refl
     one said.Consistent = refl
-    one (said.Undecided cases) = refl
+    one (said.Undecided steps) = refl
     one (said.Refused fault) = refl
 
 -- how many were judged, by the numbers

@@ -22,7 +22,7 @@ abbrev pub line_end_of : Judgment → List ℕ
 line_end_of NoViolation = verdict_line false
 line_end_of Violation = verdict_line true
 line_end_of Consistent = codes "CONSISTENT\n"
-line_end_of (Undecided cases) = codes "UNDECIDED " ++ decimal cases ++ 10 ∷ []
+line_end_of (Undecided steps) = codes "UNDECIDED " ++ decimal steps ++ 10 ∷ []
 line_end_of (Refused fault) = refusal_text fault.line fault.why
 
 -- the line of the trace of this number
@@ -40,17 +40,17 @@ json_refusal label number fault =
     codes "{"
     ++ (label ++ (codes "\"trace\":" ++ (decimal number ++ (codes ",\"verdict\":\"refused\",\"name\":\"" ++ (refusal_name fault.why ++ (codes "\",\"line\":" ++ (decimal fault.line ++ codes "}\n")))))))
 
--- after how many cases it is undecided
+-- after how many steps it is undecided
 unfoldable pub json_undecided : List ℕ → ℕ → ℕ → List ℕ
-json_undecided label number cases =
-    codes "{" ++ (label ++ (codes "\"trace\":" ++ (decimal number ++ (codes ",\"verdict\":\"undecided\",\"cases\":" ++ (decimal cases ++ codes "}\n")))))
+json_undecided label number steps =
+    codes "{" ++ (label ++ (codes "\"trace\":" ++ (decimal number ++ (codes ",\"verdict\":\"undecided\",\"steps\":" ++ (decimal steps ++ codes "}\n")))))
 
 -- the line of the trace of this number
 abbrev pub json_line : List ℕ → ℕ → Judgment → List ℕ
 json_line label number NoViolation = json_verdict label number (codes "no_violation_found")
 json_line label number Violation = json_verdict label number (codes "violation")
 json_line label number Consistent = json_verdict label number (codes "consistent")
-json_line label number (Undecided cases) = json_undecided label number cases
+json_line label number (Undecided steps) = json_undecided label number steps
 json_line label number (Refused fault) = json_refusal label number fault
 
 -- ---- in JUnit's XML, one document with a test case for each trace
@@ -67,16 +67,16 @@ junit_case label number end = codes "<testcase classname=\"" ++ label ++ codes "
 unfoldable pub junit_error : TextFault → List ℕ
 junit_error fault = codes "><error message=\"REFUSED " ++ (refusal_name fault.why ++ (codes " line " ++ (decimal fault.line ++ codes "\"/></testcase>")))
 
--- the end of an undecided trace: it is skipped, after so many cases
+-- the end of an undecided trace: it is skipped, after so many steps
 unfoldable pub junit_skipped : ℕ → List ℕ
-junit_skipped cases = codes "><skipped message=\"UNDECIDED " ++ (decimal cases ++ codes "\"/></testcase>")
+junit_skipped steps = codes "><skipped message=\"UNDECIDED " ++ (decimal steps ++ codes "\"/></testcase>")
 
 -- the line of the trace of this number: a violation is a failure
 abbrev pub junit_line : List ℕ → ℕ → Judgment → List ℕ
 junit_line label number NoViolation = junit_case label number (codes "/>")
 junit_line label number Violation = junit_case label number (codes "><failure message=\"VIOLATION\"/></testcase>")
 junit_line label number Consistent = junit_case label number (codes "/>")
-junit_line label number (Undecided cases) = junit_case label number (junit_skipped cases)
+junit_line label number (Undecided steps) = junit_case label number (junit_skipped steps)
 junit_line label number (Refused fault) = junit_case label number (junit_error fault)
 
 -- ---- in each format

@@ -13,17 +13,17 @@ use Rattle.trace_reports.specs.declared.verdicts.Verdict.TheVariants as verdict
 use Rattle.trace_reports.specs.Violations.{IsViolation}
 
 -- This is said of a trace: by the rules, that it is a violation or that it is none; by a decision, that it has an order or that it has none, or, after
--- as many cases as were to be looked at, neither.
+-- as many steps as were allowed, only that it is no violation by the rules.
 abbrev pub IsJudgmentOn : BatchMethod → TraceValue → Judgment → Type 0
 IsJudgmentOn Judge t NoViolation = IsViolation t → ⊥
 IsJudgmentOn Judge t Violation = IsViolation t
 IsJudgmentOn Judge t Consistent = ⊥
-IsJudgmentOn Judge t (Undecided cases) = ⊥
+IsJudgmentOn Judge t (Undecided steps) = ⊥
 IsJudgmentOn Judge t (Refused fault) = ⊥
 IsJudgmentOn (Decide effort) t NoViolation = ⊥
 IsJudgmentOn (Decide effort) t Violation = IsConsistent t → ⊥
 IsJudgmentOn (Decide effort) t Consistent = IsConsistent t
-IsJudgmentOn (Decide effort) t (Undecided cases) = cases ≡ effort
+IsJudgmentOn (Decide effort) t (Undecided steps) = (steps ≡ effort) × (IsViolation t → ⊥)
 IsJudgmentOn (Decide effort) t (Refused fault) = ⊥
 
 -- This is said of the piece: what is said of the trace that it spells; or at which line it is refused, and why.
@@ -32,7 +32,7 @@ IsJudgment method piece (Refused fault) = IsTraceRefusal piece fault.line fault.
 IsJudgment method piece NoViolation = (t : TraceValue) × SpellsTrace piece t × IsJudgmentOn method t NoViolation
 IsJudgment method piece Violation = (t : TraceValue) × SpellsTrace piece t × IsJudgmentOn method t Violation
 IsJudgment method piece Consistent = (t : TraceValue) × SpellsTrace piece t × IsJudgmentOn method t Consistent
-IsJudgment method piece (Undecided cases) = (t : TraceValue) × SpellsTrace piece t × IsJudgmentOn method t (Undecided cases)
+IsJudgment method piece (Undecided steps) = (t : TraceValue) × SpellsTrace piece t × IsJudgmentOn method t (Undecided steps)
 
 -- these are the judgments of the pieces, one each, in order
 abbrev pub AreJudgments : BatchMethod → List (List ℕ) → List Judgment → Type 0
@@ -46,7 +46,7 @@ abbrev pub judgment_verdict : Judgment → Verdict
 judgment_verdict NoViolation = verdict.NoViolation
 judgment_verdict Violation = verdict.Violation
 judgment_verdict Consistent = verdict.NoViolation
-judgment_verdict (Undecided cases) = verdict.NoViolation
+judgment_verdict (Undecided steps) = verdict.NoViolation
 judgment_verdict (Refused fault) = verdict.Refused
 
 -- it says a violation
@@ -61,7 +61,7 @@ says_consistent _ = false
 
 -- it says neither
 abbrev pub says_undecided : Judgment → Bool
-says_undecided (Undecided cases) = true
+says_undecided (Undecided steps) = true
 says_undecided _ = false
 
 -- it says a refusal
@@ -71,6 +71,6 @@ says_refused _ = false
 
 -- the piece was judged: it is neither refused nor undecided
 abbrev pub is_judged : Judgment → Bool
-is_judged (Undecided cases) = false
+is_judged (Undecided steps) = false
 is_judged (Refused fault) = false
 is_judged _ = true

@@ -48,7 +48,7 @@ pub enum BatchMethod {
     Judge,
     /// By a decision: whether it has an order that meets the axioms of its memory model.
     Decide {
-        /// With how many cases at most, for each trace.
+        /// With how many steps at most, for each trace.
         effort: u64,
     },
 }

@@ -110,7 +110,7 @@ impl Batch {
 /// A piece of the stream ends with a line `end`; what follows the last one, if there is a byte, is a last piece. The line of
 /// the K-th piece is `trace K` and what its report says: `NO VIOLATION FOUND`, which a quiet batch leaves out, `VIOLATION`,
 /// or `REFUSED` with name and line; or what its decision says: `CONSISTENT`, which a quiet batch leaves out, `VIOLATION`,
-/// `UNDECIDED` with the number of cases, or `REFUSED` with name and line. Where violations are to be printed, the texts of the pieces that are violations, as they
+/// `UNDECIDED` with the number of steps, or `REFUSED` with name and line. Where violations are to be printed, the texts of the pieces that are violations, as they
 /// came, stand in the place of all lines, and the last line goes to `errors`. In JSON each line is an object, with the
 /// verdict `violation`, `no_violation_found`, `consistent`, `undecided` or `refused`; in JUnit's XML it is a test case of one document.
 ///

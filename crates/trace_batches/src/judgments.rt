@@ -31,7 +31,7 @@ pub(crate) enum Judgment {
     Violation,
     /// It is a trace that has an order.
     Consistent,
-    /// It is a trace of which neither was shown with so many cases.
+    /// It is a trace of which neither was shown with so many steps.
     Undecided(u64),
     /// It is no trace: at which line it is refused, and why.
     Refused(TextFault),
@@ -108,7 +108,7 @@ fn judgment_of(decision: &Decision) -> Judgment
     match decision {
         Decision::Decided(Evidence::Order(_)) => Judgment::Consistent,
         Decision::Decided(Evidence::Unwritten(_) | Evidence::Refutation(_)) => Judgment::Violation,
-        Decision::Undecided(cases) => Judgment::Undecided(*cases),
+        Decision::Undecided(steps) => Judgment::Undecided(*steps),
     }
 }
 

@@ -116,8 +116,8 @@ fn word_line(
         Judgment::NoViolation => numbered(alloc, label, number, verdict_line(false)),
         Judgment::Violation => numbered(alloc, label, number, verdict_line(true)),
         Judgment::Consistent => numbered(alloc, label, number, "CONSISTENT\n"),
-        Judgment::Undecided(cases) => {
-            let end = format!(in alloc; "UNDECIDED {cases}\n")?;
+        Judgment::Undecided(steps) => {
+            let end = format!(in alloc; "UNDECIDED {steps}\n")?;
             numbered(alloc, label, number, end.as_str())
         }
         Judgment::Refused(fault) => {
@@ -149,7 +149,7 @@ fn json_line(
         Judgment::NoViolation => json_verdict(alloc, label, number, "no_violation_found"),
         Judgment::Violation => json_verdict(alloc, label, number, "violation"),
         Judgment::Consistent => json_verdict(alloc, label, number, "consistent"),
-        Judgment::Undecided(cases) => json_undecided(alloc, label, number, cases),
+        Judgment::Undecided(steps) => json_undecided(alloc, label, number, steps),
         Judgment::Refused(fault) => json_refusal(alloc, label, number, fault),
     }
 }
@@ -191,20 +191,20 @@ fn json_refusal(
     Ok(line)
 }
 
-/// The line of the trace of this number that is undecided after so many cases, in JSON.
+/// The line of the trace of this number that is undecided after so many steps, in JSON.
 #[tactic(auto, unfolding(crate::specs::BatchLines::json_undecided))]
 fn json_undecided(
     alloc: Global,
     label: &str,
     number: u64,
-    cases: u64,
+    steps: u64,
 ) -> Result<String, OutOfMemory>
-    ensures { IfOk result (λ line. string_bytes line ≡ json_undecided label.now number cases) }
+    ensures { IfOk result (λ line. string_bytes line ≡ json_undecided label.now number steps) }
 {
     let mut line = String::new(alloc);
     write!(
         line,
-        "{{{label}\"trace\":{number},\"verdict\":\"undecided\",\"cases\":{cases}}}\n"
+        "{{{label}\"trace\":{number},\"verdict\":\"undecided\",\"steps\":{steps}}}\n"
     )?;
     Ok(line)
 }
@@ -220,8 +220,8 @@ fn junit_line(
 {
     match judgment {
         Judgment::NoViolation | Judgment::Consistent => { junit_case(alloc, label, number, "/>") }
-        Judgment::Undecided(cases) => {
-            let end = junit_skipped(alloc, cases)?;
+        Judgment::Undecided(steps) => {
+            let end = junit_skipped(alloc, steps)?;
             junit_case(alloc, label, number, end.as_str())
         }
         Judgment::Violation => junit_case(
@@ -264,10 +264,10 @@ fn junit_error(alloc: Global, fault: TextFault) -> Result<String, OutOfMemory>
     Ok(end)
 }
 
-/// The end of the test case of a trace that is undecided after so many cases.
+/// The end of the test case of a trace that is undecided after so many steps.
 #[tactic(auto, unfolding(crate::specs::BatchLines::junit_skipped))]
-fn junit_skipped(alloc: Global, cases: u64) -> Result<String, OutOfMemory>
-    ensures { IfOk result (λ end. string_bytes end ≡ junit_skipped cases) }
+fn junit_skipped(alloc: Global, steps: u64) -> Result<String, OutOfMemory>
+    ensures { IfOk result (λ end. string_bytes end ≡ junit_skipped steps) }
 {
-    format!(in alloc; "><skipped message=\"UNDECIDED {cases}\"/></testcase>")
+    format!(in alloc; "><skipped message=\"UNDECIDED {steps}\"/></testcase>")
 }

@@ -33,7 +33,7 @@ says t trace (Refutation lines) holds = not_consistent t (own_values t trace) li
 
 pub tells : (t : TraceValue) (effort : ℕ) → IsTrace t → (d : Decision) → IsDecision t effort d → Tells t d
 tells t effort trace (Decided e) is = says t trace e is
-tells t effort trace (Undecided cases) is = tt
+tells t effort trace (Undecided steps) is = is.1
 
 pub answer_says : (t : TraceValue) (e : Evidence) → Says t e → AnswerSays t (answer_by e)
 answer_says t (Unwritten n) is = is
@@ -42,7 +42,7 @@ answer_says t (Refutation lines) is = is
 
 pub decision_says : (t : TraceValue) (d : Decision) → Tells t d → AnswerSays t (answer_of d)
 decision_says t (Decided e) is = answer_says t e is
-decision_says t (Undecided cases) is = tt
+decision_says t (Undecided steps) is = is
 
 -- ---- of which bytes a decision is
 

@@ -11,6 +11,7 @@ use Rattle.tso_evidence.specs.declared.evidence.Evidence.{Evidence}
 use Rattle.tso_evidence.specs.declared.evidence.Evidence.TheVariants.{Unwritten, Order, Refutation}
 use Rattle.tso_evidence.specs.Printed.{evidence_text}
 use Rattle.trace_reports.specs.Renderings.{SaidOfRefusal}
+use Rattle.trace_reports.specs.Violations.{IsViolation}
 use Rattle.trace_reports.specs.Readings.{ReadsAs}
 use Rattle.trace_decisions.specs.declared.answers.Answer.{Answer}
 use Rattle.trace_decisions.specs.declared.answers.Answer.TheVariants.{Consistent, Violation, Undecided as NotDecided, Refused}
@@ -27,13 +28,13 @@ answer_by (Refutation lines) = Violation
 -- what a decision says
 abbrev pub answer_of : Decision → Answer
 answer_of (Decided e) = answer_by e
-answer_of (Undecided cases) = NotDecided
+answer_of (Undecided steps) = NotDecided
 
 -- what an answer says of a trace
 abbrev pub AnswerSays : TraceValue → Answer → Type 0
 AnswerSays t Consistent = IsConsistent t
 AnswerSays t Violation = IsConsistent t → ⊥
-AnswerSays t NotDecided = Unit {0}
+AnswerSays t NotDecided = IsViolation t → ⊥
 AnswerSays t Refused = Unit {0}
 
 -- the line that says whether there is an order
@@ -45,7 +46,7 @@ answer_line (Refutation lines) = codes "VIOLATION\n"
 -- the line of the answer
 abbrev pub decided_line : Decision → List ℕ
 decided_line (Decided e) = answer_line e
-decided_line (Undecided cases) = codes "UNDECIDED " ++ decimal cases ++ codes "\n"
+decided_line (Undecided steps) = codes "UNDECIDED " ++ decimal steps ++ codes "\n"
 
 -- the first lines: how many processors and events the trace has, and the answer
 abbrev pub decision_head : TraceValue → Decision → List ℕ
@@ -54,7 +55,7 @@ decision_head t d = codes "TSO DECISION 1\nprocessors " ++ decimal (processor_co
 -- the evidence, where there is any
 abbrev pub shown_evidence : Decision → List ℕ
 shown_evidence (Decided e) = evidence_text e
-shown_evidence (Undecided cases) = []
+shown_evidence (Undecided steps) = []
 
 -- the text of a decision on a trace
 abbrev pub decision_text : TraceValue → Decision → List ℕ

@@ -6,6 +6,7 @@ use Rattle.tso_model.specs.Axioms.{IsModelOrder, IsConsistent}
 use Rattle.tso_evidence.specs.declared.evidence.Evidence.{Evidence}
 use Rattle.tso_evidence.specs.declared.evidence.Evidence.TheVariants.{Unwritten, Order, Refutation}
 use Rattle.refutation_check.specs.Refutations.{RefutationHolds}
+use Rattle.trace_reports.specs.Violations.{IsViolation}
 use Rattle.trace_decisions.specs.declared.decisions.Decision.{Decision}
 use Rattle.trace_decisions.specs.declared.decisions.Decision.TheVariants.{Decided, Undecided}
 
@@ -21,12 +22,12 @@ Says t (Unwritten n) = IsConsistent t → ⊥
 Says t (Order order) = IsConsistent t
 Says t (Refutation lines) = IsConsistent t → ⊥
 
--- The decision on the trace: evidence that holds, or none after as many cases as were to be looked at.
+-- The decision on the trace: evidence that holds, or, after as many steps as were allowed, only that it is no violation by the rules.
 abbrev pub IsDecision : TraceValue → ℕ → Decision → Type 0
 IsDecision t effort (Decided e) = HoldsFor t e
-IsDecision t effort (Undecided cases) = cases ≡ effort
+IsDecision t effort (Undecided steps) = (steps ≡ effort) × (IsViolation t → ⊥)
 
 -- what a decision says of the trace
 abbrev pub Tells : TraceValue → Decision → Type 0
 Tells t (Decided e) = Says t e
-Tells t (Undecided cases) = Unit {0}
+Tells t (Undecided steps) = IsViolation t → ⊥

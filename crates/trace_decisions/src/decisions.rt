@@ -5,6 +5,7 @@ ghost use Rattle.tso_ops.specs.Limits.{IsTrace};
 ghost use Rattle.tso_model.specs.Certs.{Holds};
 ghost use Rattle.tso_evidence.specs.Certificates.{certificate_lines};
 ghost use Rattle.refutation_check.specs.Refutations.{RefutationHolds};
+ghost use Rattle.trace_reports.specs.Violations.{IsViolation};
 ghost use Rattle.trace_judging.specs.declared.faults.Fault.{Fault};
 ghost use Rattle.trace_decisions.specs.Decisions.{HoldsFor, IsDecision, Tells};
 
@@ -26,12 +27,12 @@ use tso_ops::{OutOfMemory, Trace};
 pub enum Decision {
     /// This evidence holds: an order, which makes the trace consistent, or what shows that it has none.
     Decided(Evidence),
-    /// After so many cases neither was found.
+    /// After so many steps neither was found. By the rules the trace is no violation.
     Undecided(u64),
 }
 
 /// Decides whether a trace has an order that meets the axioms of its memory model, on `workers` workers (1 to 64), with at most
-/// `effort` cases.
+/// `effort` steps of the search.
 ///
 /// A load whose value nothing wrote, and a cycle of the edges that the rules force, are found as a violation is. Else an order is
 /// searched for, and where two stores of one address could come in either order, both are supposed in turn. What is answered was
@@ -149,13 +150,14 @@ pub fn copy_step(alloc: Global, step: &CertStep) -> Result<CertStep, OutOfMemory
     })
 }
 
-/// What a search over so many cases finds. OutOfMemory where an allocation was refused.
+/// What a search of so many steps finds of a trace that is no violation by the rules. OutOfMemory where an allocation was refused.
 fn by_search(
     alloc: Global,
     trace: &Trace,
     ranked: &Ranked,
     effort: u64,
 ) -> Result<Decision, OutOfMemory>
+    requires { IsViolation trace.now → ⊥ }
     ensures { IfOk result (IsDecision trace.now effort) }
 {
     let memory = Memory::new(alloc);

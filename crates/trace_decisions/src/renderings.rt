@@ -97,7 +97,7 @@ fn print_answer(text: &mut String, decision: &Decision) -> Result<(), OutOfMemor
 {
     match decision {
         Decision::Decided(evidence) => text.push_str(answer_line(evidence)),
-        Decision::Undecided(cases) => write!(text, "UNDECIDED {cases}\n"),
+        Decision::Undecided(steps) => write!(text, "UNDECIDED {steps}\n"),
     }
 }
 

@@ -32,12 +32,12 @@ pub struct Said {
     pub text: String,
 }
 
-/// On how many workers, and with how many cases, it is decided.
+/// On how many workers, and with how many steps, it is decided.
 #[derive(Clone, Copy, Debug, PartialEq, Eq)]
 pub struct DecisionLimits {
     /// The number of workers, 1 to 64.
     pub workers: usize,
-    /// How many cases are looked at, at most.
+    /// How many steps the search does, at most.
     pub effort: u64,
 }
 

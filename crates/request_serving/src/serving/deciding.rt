@@ -24,7 +24,7 @@ use trace_batches::read_piece;
 use trace_decisions::{Answer, AsDecision, DecisionLimits, decide_input};
 use trace_judging::Fault;
 
-/// Decides on the trace in a file, or else in what the reader has, with at most as many cases as the request names, and presents
+/// Decides on the trace in a file, or else in what the reader has, with at most as many steps as the request names, and presents
 /// the decision.
 pub(crate) fn decide_named<H: Threads + Wait + AllocGlobal, O: Surroundings, R: Read, W: Write>(
     rt: &H,

@@ -74,7 +74,7 @@ pub(super) static CASES: [Case; 8] = [
         &[(None, STREAM)],
         UNDECIDED_JSON,
         BatchVerdict::Violation,
-        "{\"trace\":1,\"verdict\":\"consistent\"}\n{\"trace\":2,\"verdict\":\"violation\"}\n{\"trace\":3,\"verdict\":\"undecided\",\"cases\":0}\n{\"trace\":4,\"verdict\":\"refused\",\"name\":\"BadNumber\",\"line\":3}\n{\"traces\":4,\"consistent\":1,\"violations\":1,\"undecided\":1,\"refused\":1}\n",
+        "{\"trace\":1,\"verdict\":\"consistent\"}\n{\"trace\":2,\"verdict\":\"violation\"}\n{\"trace\":3,\"verdict\":\"undecided\",\"steps\":0}\n{\"trace\":4,\"verdict\":\"refused\",\"name\":\"BadNumber\",\"line\":3}\n{\"traces\":4,\"consistent\":1,\"violations\":1,\"undecided\":1,\"refused\":1}\n",
         "",
     ),
     (
