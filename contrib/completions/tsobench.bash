@@ -72,7 +72,7 @@ _tsobench() {
         draw/*) words='--decide --effort --workers --nth --verbose -h --help' files=yes ;;
         reduce/*) words='--nth --verbose -h --help' files=yes ;;
         batch/*) words='--workers --format --quiet --violations --decide --effort --require --progress --verbose -h --help' files=yes ;;
-        log/*) words='--most --effort --max-unknown --trace --explain --progress --verbose -h --help' files=yes ;;
+        log/*) words='--most --effort --max-unknown --ended --trace --explain --progress --verbose -h --help' files=yes ;;
         check/*) words='--nth --verbose -h --help' files=yes ;;
         verify/*) words='--nth --verbose -h --help' files=yes ;;
         outcomes/*) words='--states --limit --seen --verbose -h --help' files=yes ;;

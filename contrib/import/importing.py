@@ -23,10 +23,11 @@ class NoLine(Exception):
 
 
 class Log:
-    """A log while it is translated. `place` names the file and line that are read; it is kept for each line of the log."""
+    """A log while it is translated. `place` names the file and line that are read; it is kept for each line of the log.
+    `is_ended` says that nothing may follow."""
 
     def __init__(self, model):
-        self.model, self.first, self.operations, self.place = model, {}, [], ""
+        self.model, self.first, self.operations, self.place, self.is_ended = model, {}, [], "", False
 
     def add_first(self, address, value):
         """The first value of an address."""
@@ -50,6 +51,7 @@ class Log:
         for address, (value, place) in sorted(self.first.items()):
             yield f"init {address} {value}", place
         yield from self.operations
+        yield "end", "end"
 
 
 class Importer:

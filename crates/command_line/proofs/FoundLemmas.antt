@@ -96,12 +96,13 @@ pub run_options_found : (given : Text → Option Text) (unit : UnitOptions) (wor
 run_options_found given unit workers printing with_trace unit_is workers_are printing_is with_trace_is = rw (unit_is, workers_are, printing_is, with_trace_is) refl
 
 -- what is shown of a log, by its form
-pub log_options_found : (given : Text → Option Text) (most effort max_unknown : ℕ) (form : Option LogForm) → most ≡ within 1 log_violation_limit (number_or 10 (given (codes "most")))
+pub log_options_found : (given : Text → Option Text) (most effort max_unknown : ℕ) (needs_end : Bool) (form : Option LogForm) → most ≡ within 1 log_violation_limit (number_or 10 (given (codes "most")))
     → effort ≡ within 0 log_effort_limit (number_or 100 (given (codes "effort")))
     → max_unknown ≡ within 0 percent_limit (number_or 100 (given (codes "max-unknown")))
+    → needs_end ≡ is_true (given (codes "ended"))
     → form ≡ log_form_of (is_true (given (codes "trace"))) (is_true (given (codes "explain")))
-    → option_map (λ (f : LogForm). record { most = most; effort = effort; max_unknown = max_unknown; form = f }) form ≡ log_options_of given
-log_options_found given most effort max_unknown form most_is effort_is max_unknown_is form_is = rw (most_is, effort_is, max_unknown_is, form_is) refl
+    → option_map (λ (f : LogForm). record { most = most; effort = effort; max_unknown = max_unknown; needs_end = needs_end; form = f }) form ≡ log_options_of given
+log_options_found given most effort max_unknown needs_end form most_is effort_is max_unknown_is end_is form_is = rw (most_is, effort_is, max_unknown_is, end_is, form_is) refl
 
 -- what `check` asks for with these texts, where there are any, and this number
 pub check_asked : (rows : List Row) (texts : Option (Option Text × Option Text)) → texts ≡ pair_of (file_of (first_of (codes "trace") rows)) (file_of (first_of (codes "cert") rows)) → (nth : Option ℕ)

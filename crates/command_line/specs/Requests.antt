@@ -34,7 +34,7 @@ pub data Asked : Type 0 where
   -- to judge a trace with so many workers, and to present the verdict in this form: the only trace of a text, or the one of this number among those that
   -- stand in it one after the other
   judging : Presentation → Option Text → ℕ → Option ℕ → Asked
-  -- to decide, with so many workers and after so many cases at most, whether a trace, the only one of a text or the one of this number, has an order that meets
+  -- to decide, with so many workers and after so many steps at most, whether a trace, the only one of a text or the one of this number, has an order that meets
   -- the axioms of its memory model, and to present the decision in this form
   deciding : Presentation → Option Text → ℕ → Option ℕ → ℕ → Asked
   -- to reduce a trace, the only one of a text or the one of this number, to a small one that shows its violation

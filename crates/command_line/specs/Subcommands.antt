@@ -75,7 +75,7 @@ workers = option (codes "workers") (range 1 worker_limit) (Some (codes "1"))
 abbrev pub nth : Parameter NameList
 nth = optional (codes "nth") (range 1 number_limit)
 
--- `--effort N`: 100,000 cases where it is left out
+-- `--effort N`: 100,000 steps where it is left out
 abbrev pub effort : Parameter NameList
 effort = option (codes "effort") (range 0 number_limit) (Some (codes "100000"))
 
@@ -107,14 +107,14 @@ drain_turns = option (codes "drain-turns") (range 0 drain_turns_limit) (Some (co
 abbrev pub times : Parameter NameList
 times = option (codes "times") (range 1 run_times_limit) (Some (codes "1"))
 
--- `[--most K] [--effort N] [--max-unknown PERCENT] [--trace|--explain] [--progress] [--verbose]`: 10 violations, an effort of 100 and 100 of a hundred where
--- they are left out
+-- `[--most K] [--effort N] [--max-unknown PERCENT] [--ended] [--trace|--explain] [--progress] [--verbose]`: 10 violations, an effort of 100 and 100 of a
+-- hundred where they are left out
 abbrev pub log_parameters : List (Parameter NameList)
 log_parameters =
     option (codes "most") (range 1 log_violation_limit) (Some (codes "10"))
     ∷ option (codes "effort") (range 0 log_effort_limit) (Some (codes "100"))
     ∷ option (codes "max-unknown") (range 0 percent_limit) (Some (codes "100"))
-    ∷ flag (codes "trace") ∷ flag (codes "explain") ∷ progress ∷ verbose ∷ []
+    ∷ flag (codes "ended") ∷ flag (codes "trace") ∷ flag (codes "explain") ∷ progress ∷ verbose ∷ []
 
 -- `--name N`, which may not be left out
 abbrev pub required : Text → Parameter NameList
@@ -207,6 +207,7 @@ log_options_in given form = record {
   most = within 1 log_violation_limit (number_or 10 (given (codes "most")));
   effort = within 0 log_effort_limit (number_or 100 (given (codes "effort")));
   max_unknown = within 0 percent_limit (number_or 100 (given (codes "max-unknown")));
+  needs_end = is_true (given (codes "ended"));
   form = form;
 }
 
@@ -257,7 +258,7 @@ present_as name presentation = record {
 }
 
 -- `decide [--effort N] [--workers N] [--nth K] [--verbose] [FILE]`: decides whether the trace in a file, or on standard input, or of the traces that stand there
--- one after the other that of a number, has an order that meets the axioms of its memory model; after 100,000 cases at most where the effort is left out
+-- one after the other that of a number, has an order that meets the axioms of its memory model; after 100,000 steps at most where the effort is left out
 abbrev pub decide : Subcommand
 decide = record {
   name = codes "decide";
@@ -285,7 +286,7 @@ batch = record {
   ask = λ given. batching [] (workers_of given) (batch_printing_of given);
 }
 
--- `log [--most K] [--effort N] [--max-unknown PERCENT] [--trace|--explain] [--progress] [--verbose] [FILE]`: finds violations of the log in a file, or on standard input
+-- `log [--most K] [--effort N] [--max-unknown PERCENT] [--ended] [--trace|--explain] [--progress] [--verbose] [FILE]`: finds violations of the log in a file, or on standard input
 abbrev pub log : Subcommand
 log = record {
   name = codes "log";

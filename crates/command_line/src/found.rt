@@ -319,6 +319,7 @@ fn log_options(matches: &ArgMatches<'_>) -> Option<LogOptions>
         most: number_within(matches, "most", 10, 1, MAX_LOG_VIOLATIONS as u64) as usize,
         effort: number_within(matches, "effort", 100, 0, MAX_LOG_EFFORT as u64) as usize,
         max_unknown: number_within(matches, "max-unknown", 100, 0, MAX_PERCENT as u64) as usize,
+        needs_end: is_used(matches, "ended"),
         form,
     })
 }

@@ -203,7 +203,7 @@ pub struct BatchPrinting {
     pub quiet: bool,
     /// Whether the texts of violations are printed in place of all lines.
     pub violations: bool,
-    /// With how many cases at most it is decided whether each trace has an order; none where the traces are judged.
+    /// With how many steps at most it is decided whether each trace has an order; none where the traces are judged.
     pub effort: Option<u64>,
     /// How many traces have to be judged, at least, and neither refused nor undecided; none where any number will do.
     pub required: Option<u64>,
@@ -229,6 +229,8 @@ pub struct LogOptions {
     pub effort: usize,
     /// How many of a hundred loads may have a source that the values don't tell, 0 to 100, so that the log counts as judged.
     pub max_unknown: usize,
+    /// Whether a log without a line `end` is refused.
+    pub needs_end: bool,
     /// In which form.
     pub form: LogForm,
 }

@@ -99,7 +99,7 @@ pub struct DecideRequest<'a> {
     pub workers: usize,
     /// Which of the traces that stand there one after the other is decided, from 1; none where it is the only one.
     pub nth: Option<u64>,
-    /// How many cases are looked at, at most.
+    /// How many steps the search for a decision does, at most.
     pub effort: u64,
     /// In which form the decision is presented.
     pub presentation: Presentation,

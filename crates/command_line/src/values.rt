@@ -68,14 +68,14 @@ pub(crate) fn workers(matches: &ArgMatches<'_>) -> usize
     number_within(matches, "workers", 1, 1, MAX_WORKERS as u64) as usize
 }
 
-/// How many cases are looked at, at most: 100,000 where the effort is left out.
+/// How many steps the search for a decision does, at most: 100,000 where the effort is left out.
 pub(crate) fn effort(matches: &ArgMatches<'_>) -> u64
     ensures { result ≡ number_or 100000 (one_of (codes "effort") (rows_of (found_of matches.now))) }
 {
     number(matches, "effort", 100_000)
 }
 
-/// How many cases are looked at, at most, where a decision is asked for.
+/// How many steps the search for a decision does, at most, where one is asked for.
 pub(crate) fn decision_effort(matches: &ArgMatches<'_>) -> Option<u64>
     ensures { result ≡ (if is_true (one_of (codes "decide") (rows_of (found_of matches.now))) then Some (number_or 100000 (one_of (codes "effort") (rows_of (found_of matches.now)))) else None) }
 {

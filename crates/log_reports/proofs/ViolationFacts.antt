@@ -1,5 +1,5 @@
 -- A log of which a violation is listed has no order of its model.
-use Rattle.std.proofs.Common.{◌≡◌, ⊎_elim, ℕ, List, true, false, [], ◌∷◌, arith, cond, sym, subst}
+use Rattle.std.proofs.Common.{◌≡◌, ◌&&◌, ◌||◌, ⊎_elim, ℕ, Bool, List, not, refl, true, false, [], ◌∷◌, arith, cond, sym, subst}
 use Rattle.std.specs.Prelude.{MatchOption, Option, None, Some, is_some}
 use Rattle.std.specs.List.{All}
 use Rattle.tso_cert.specs.declared.steps.Certificate.{Certificate}
@@ -8,6 +8,7 @@ use Rattle.trace_reports.specs.declared.findings.Finding.{Finding}
 use Rattle.trace_reports.specs.Findings.{IsFinding}
 use Rattle.line_text.specs.Lines.{is_empty}
 use Rattle.tso_ops.specs.Values.{TraceValue}
+use Rattle.tso_ops.specs.Events.{IsUnwritten}
 use Rattle.tso_model.specs.Axioms.{IsConsistent}
 use Rattle.trace_reports.specs.Violations.{IsViolation}
 use Rattle.tso_model.proofs.CertificateCause.{certificate_cause}
@@ -26,8 +27,8 @@ use Rattle.log_reports.specs.declared.findings.LogViolation.TheVariants.{Selecti
 use Rattle.log_reports.specs.declared.counts.LogCounts.{LogCounts}
 use Rattle.log_reports.specs.declared.reports.LogOptions.{LogOptions}
 use Rattle.log_reports.specs.declared.reports.LogVerdict.TheVariants.{NoViolation, NotAllJudged, Violation, Refused}
-use Rattle.log_reports.specs.Findings.{AreFindings, IsListed}
-use Rattle.log_reports.specs.LogCounts.{counts_of}
+use Rattle.log_reports.specs.Findings.{AreFindings, AreWrittenIn, IsListed, has_unjudged}
+use Rattle.log_reports.specs.LogCounts.{counts_of, is_nothing_judged, is_too_unknown}
 use Rattle.log_reports.specs.LogReports.{IsLogReport, is_all_judged, verdict_of}
 
 module _ (log : NumberedLog) (shown : List Shown) (t : TraceValue) (selected : IsSelected log shown t) (violation : IsViolation t) where
@@ -62,10 +63,38 @@ listed log (violation ∷ violations) all_judged is all = log_violation log viol
 pub found_violation : (log : NumberedLog) (options : LogOptions) (counts : LogCounts) (findings : LogFindings) → AreFindings log findings → verdict_of options counts findings ≡ Violation → IsConsistent (log_operations log) → ⊥
 found_violation log options counts findings found is = listed log findings.violations.items (is_all_judged options counts findings) is found.listed
 
+-- where the verdict is NoViolation, nothing is listed, and all was judged
+none_listed : (violations : List LogViolation) (all_judged : Bool) → cond (is_empty violations) (cond all_judged NoViolation NotAllJudged) Violation ≡ NoViolation → (violations ≡ []) × (all_judged ≡ true)
+none_listed [] true is = (refl, refl)
+none_listed [] false is = absurd cc
+none_listed (violation ∷ violations) all_judged is = absurd cc
+
+-- so no load read what nothing wrote
+all_judged_written : (early unjudged unlisted nothing many : Bool) → (not early && not (unjudged || unlisted) && not nothing && not many) ≡ true → unlisted ≡ false
+all_judged_written early unjudged false nothing many is = refl
+all_judged_written true unjudged true nothing many is = absurd cc
+all_judged_written false true true nothing many is = absurd cc
+all_judged_written false false true nothing many is = absurd cc
+
+found_none : (log : NumberedLog) (options : LogOptions) (counts : LogCounts) (findings : LogFindings) → AreWrittenIn log findings → verdict_of options counts findings ≡ NoViolation → (l : ℕ) → IsUnwritten (log_operations log) l → ⊥
+found_none log options counts findings written is =
+    let (none, all_judged) = none_listed findings.violations.items (is_all_judged options counts findings) is in
+    written none (all_judged_written findings.is_early (not (is_empty findings.unjudged.items)) findings.has_unlisted (is_nothing_judged counts) (is_too_unknown options.max_unknown counts) all_judged)
+
+pub report_written : (options : LogOptions) (bytes text : List ℕ) → IsLogReport options bytes text NoViolation → (log : NumberedLog) → SpellsLog bytes log → (l : ℕ) → IsUnwritten (log_operations log) l → ⊥
+report_written options bytes text is log spelled =
+    ⊎_elim
+    (λ of_log. subst (λ (other : NumberedLog). (l : ℕ) → IsUnwritten (log_operations other) l → ⊥) (one_log bytes of_log.0 log of_log.1 spelled) (found_none of_log.0 options (counts_of of_log.0 of_log.3.unknown) of_log.3.findings of_log.3.written (sym of_log.3.gives)))
+    (λ refusal. absurd (differ refusal.gives))
+    is
+  where
+    differ : NoViolation ≡ Refused → ⊥
+    differ same = cc
+
 pub report_violation : (options : LogOptions) (bytes text : List ℕ) → IsLogReport options bytes text Violation → (log : NumberedLog) → SpellsLog bytes log → IsConsistent (log_operations log) → ⊥
 report_violation options bytes text is log spelled =
     ⊎_elim
-    (λ of_log. subst (λ (other : NumberedLog). IsConsistent (log_operations other) → ⊥) (one_log bytes of_log.0 log of_log.1 spelled) (found_violation of_log.0 options (counts_of of_log.0 of_log.2.unknown) of_log.2.findings of_log.2.found (sym of_log.2.gives)))
+    (λ of_log. subst (λ (other : NumberedLog). IsConsistent (log_operations other) → ⊥) (one_log bytes of_log.0 log of_log.1 spelled) (found_violation of_log.0 options (counts_of of_log.0 of_log.3.unknown) of_log.3.findings of_log.3.found (sym of_log.3.gives)))
     (λ refusal. absurd (differ refusal.gives))
     is
   where

@@ -1,9 +1,11 @@
 -- What is found in a log.
-use Rattle.std.specs.Prelude.{◌≤◌, ℕ, Bool, true, false}
+use Rattle.std.specs.Prelude.{◌≡◌, ◌≤◌, ◌||◌, not, ℕ, Bool, true, false, []}
 use Rattle.std.specs.List.{All, count_by}
+use Rattle.line_text.specs.Lines.{is_empty}
+use Rattle.tso_ops.specs.Events.{IsUnwritten}
 use Rattle.trace_reports.specs.Findings.{IsFinding}
 use Rattle.trace_reports.specs.Violations.{IsViolation}
-use Rattle.log_text.specs.LogValues.{NumberedLog}
+use Rattle.log_text.specs.LogValues.{NumberedLog, log_operations}
 use Rattle.log_selections.specs.Shown.{AreLinesOf, IsSelected}
 use Rattle.log_selections.specs.Unwritten.{IsUnwrittenLoad}
 use Rattle.log_reports.specs.declared.findings.LogFindings.{LogFindings}
@@ -35,3 +37,11 @@ pub record AreFindings (log : NumberedLog) (findings : LogFindings) : Type 0 whe
 pub record AreWithin (most : ℕ) (findings : LogFindings) : Type 0 where
   pub unwritten : count_by is_unwritten findings.violations.items ≤ most
   pub selections : count_by is_selection findings.violations.items ≤ most
+
+-- Where nothing is listed, each load read what something wrote, or it is noted that one didn't.
+abbrev pub AreWrittenIn : NumberedLog → LogFindings → Type 0
+AreWrittenIn log findings = findings.violations.items ≡ [] → findings.has_unlisted ≡ false → (l : ℕ) → IsUnwritten (log_operations log) l → ⊥
+
+-- something wasn't judged that should have been a violation
+abbrev pub has_unjudged : LogFindings → Bool
+has_unjudged findings = not (is_empty findings.unjudged.items) || findings.has_unlisted

@@ -4,7 +4,7 @@ use Rattle.line_text.specs.Lines.{is_empty}
 use Rattle.tso_text.specs.declared.faults.Why.{Why}
 use Rattle.trace_reports.specs.Readings.{ReadsAs}
 use Rattle.trace_reports.specs.RefusalLines.{refusal_text}
-use Rattle.log_text.specs.LogTexts.{IsLogRefusal, SpellsLog}
+use Rattle.log_text.specs.LogTexts.{IsEndedAsNeeded, IsLogRefusal, SpellsLog}
 use Rattle.log_text.specs.LogValues.{NumberedLog}
 use Rattle.log_selections.specs.Sources.{IsAmbiguousCount}
 use Rattle.log_reports.specs.declared.findings.LogFindings.{LogFindings}
@@ -12,14 +12,14 @@ use Rattle.log_reports.specs.declared.counts.LogCounts.{LogCounts}
 use Rattle.log_reports.specs.declared.reports.LogOptions.{LogOptions}
 use Rattle.log_reports.specs.declared.reports.LogVerdict.{LogVerdict}
 use Rattle.log_reports.specs.declared.reports.LogVerdict.TheVariants.{NoViolation, NotAllJudged, Violation, Refused}
-use Rattle.log_reports.specs.Findings.{AreFindings, AreWithin}
+use Rattle.log_reports.specs.Findings.{AreFindings, AreWithin, AreWrittenIn, has_unjudged}
 use Rattle.log_reports.specs.LogCounts.{counts_of, is_nothing_judged, is_too_unknown}
 use Rattle.log_reports.specs.LogTexts.{text_in}
 
 -- The whole log was searched, what was found could be judged, some load was, and no larger share of the loads is unknown than allowed.
 abbrev pub is_all_judged : LogOptions → LogCounts → LogFindings → Bool
 is_all_judged options counts findings =
-    not findings.is_early && is_empty findings.unjudged.items && not (is_nothing_judged counts) && not (is_too_unknown options.max_unknown counts)
+    not findings.is_early && not (has_unjudged findings) && not (is_nothing_judged counts) && not (is_too_unknown options.max_unknown counts)
 
 -- a violation where one is listed
 abbrev pub verdict_of : LogOptions → LogCounts → LogFindings → LogVerdict
@@ -30,23 +30,24 @@ pub record IsReportOf (log : NumberedLog) (options : LogOptions) (text : List �
   pub findings : LogFindings
   pub found : AreFindings log findings
   pub few : AreWithin options.most findings
+  pub written : AreWrittenIn log findings
   -- how many loads have a source that the values don't tell
   pub unknown : ℕ
   pub counted : IsAmbiguousCount log unknown
   pub says : text ≡ text_in options (counts_of log unknown) log findings
   pub gives : verdict ≡ verdict_of options (counts_of log unknown) findings
 
--- The text is the line of the refusal of these bytes, which are no log.
-pub record IsRefusalOf (bytes text : List ℕ) (verdict : LogVerdict) : Type 0 where
+-- The text is the line of the refusal of these bytes, which are no log, or lack the line `end` that is needed.
+pub record IsRefusalOf (options : LogOptions) (bytes text : List ℕ) (verdict : LogVerdict) : Type 0 where
   pub line : ℕ
   pub why : Why
-  pub refused : IsLogRefusal bytes line why
+  pub refused : IsLogRefusal options.needs_end bytes line why
   pub says : text ≡ refusal_text line why
   pub gives : verdict ≡ Refused
 
 -- The text is a report on the log that these bytes spell, or refuses them.
 abbrev pub IsLogReport : LogOptions → List ℕ → List ℕ → LogVerdict → Type 0
-IsLogReport options bytes text verdict = ((log : NumberedLog) × SpellsLog bytes log × IsReportOf log options text verdict) ⊎ IsRefusalOf bytes text verdict
+IsLogReport options bytes text verdict = ((log : NumberedLog) × SpellsLog bytes log × IsEndedAsNeeded options.needs_end bytes × IsReportOf log options text verdict) ⊎ IsRefusalOf options bytes text verdict
 
 -- the same of the bytes of a reader
 abbrev pub IsLogReportOfReader : LogOptions → Option (List ℕ) → List ℕ → LogVerdict → Type 0

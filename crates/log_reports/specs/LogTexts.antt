@@ -19,6 +19,7 @@ use Rattle.log_reports.specs.Namings.{naming_of_shown}
 use Rattle.trace_explanation.specs.JoinedTexts.{joined}
 use Rattle.trace_explanation.specs.Explanations.{explanation_by}
 use Rattle.log_reports.specs.declared.counts.LogCounts.{LogCounts}
+use Rattle.log_reports.specs.Findings.{has_unjudged}
 use Rattle.log_reports.specs.declared.findings.LogFindings.{LogFindings}
 use Rattle.log_reports.specs.declared.findings.LogViolation.{LogViolation}
 use Rattle.log_reports.specs.declared.findings.LogViolation.TheVariants.{Selection, Unwritten}
@@ -65,7 +66,7 @@ words_if is words = cond is words []
 
 -- that the rest of the log wasn't judged, or what is no trace
 abbrev pub unsearched_text : LogFindings → List ℕ
-unsearched_text findings = words_if findings.is_early (codes "SEARCH ENDED EARLY\n") ++ words_if (not (is_empty findings.unjudged.items)) (codes "NOT ALL JUDGED\n")
+unsearched_text findings = words_if findings.is_early (codes "SEARCH ENDED EARLY\n") ++ words_if (has_unjudged findings) (codes "NOT ALL JUDGED\n")
 
 -- that no load was judged, or that of a hundred more are unknown than so many
 abbrev pub unknown_text : ℕ → LogCounts → List ℕ

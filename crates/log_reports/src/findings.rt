@@ -3,7 +3,7 @@ ghost use Rattle.std.specs.Prelude.{◌≡◌, ◌≤◌, ◌⊎◌, ◌+◌, Bo
 ghost use Rattle.std.specs.List.{count_by};
 ghost use Rattle.trace_judging.specs.declared.faults.Fault.{Fault};
 ghost use Rattle.log_text.specs.LogValues.{NumberedLog};
-ghost use Rattle.log_reports.specs.Findings.{AreFindings, AreWithin, IsListed, is_selection, is_unwritten};
+ghost use Rattle.log_reports.specs.Findings.{AreFindings, AreWithin, AreWrittenIn, IsListed, has_unjudged, is_selection, is_unwritten};
 ghost use Rattle.log_reports.specs.declared.findings.LogViolation.{LogViolation};
 
 use crate::judging::TraceJudge;
@@ -49,6 +49,8 @@ pub struct LogFindings {
     pub parts: usize,
     /// Whether the search ended before the log did, since it had done as much work as it is allowed.
     pub is_early: bool,
+    /// Whether nothing is listed, though some load read what nothing wrote.
+    pub has_unlisted: bool,
 }
 
 /// Finds violations of a log: first loads of what nothing wrote, in the order of their processors, and then what the search
@@ -65,6 +67,7 @@ pub fn find_violations<H: Threads + Wait, M: Meter>(
 ) -> Result<LogFindings, Fault>
     ensures found { IfOk result (AreFindings known.now) }
     ensures few { IfOk result (AreWithin options.most) }
+    ensures written { IfOk result (AreWrittenIn known.now) }
     ensures fault { IfErr result (λ fault. (fault ≡ Fault.OutOfMemory) ⊎ (fault ≡ Fault.NoThread)) }
 {
     let mut findings = LogFindings {
@@ -75,9 +78,11 @@ pub fn find_violations<H: Threads + Wait, M: Meter>(
         unreduced: 0,
         parts: 1,
         is_early: false,
+        has_unlisted: false,
     };
     findings.list_unwritten(alloc, known, options.most)?;
     findings.search(rt, alloc, known, options, meter)?;
+    findings.note_unlisted(known);
     Ok(findings)
 }
 
@@ -188,6 +193,25 @@ impl LogFindings {
         self.violations.push(violation)?;
         *places -= 1;
         Ok(true)
+    }
+
+    /// Notes whether nothing is listed, though some load read what nothing wrote.
+    fn note_unlisted(&mut self, known: &KnownLog)
+        ensures written { AreWrittenIn known.now self.new }
+        ensures violations { self.new.violations ≡ self.old.violations }
+        ensures unjudged { self.new.unjudged ≡ self.old.unjudged }
+    {
+        if !self.violations.is_empty() {
+            return;
+        }
+        self.has_unlisted = !known.unwritten_loads().is_empty();
+    }
+
+    /// Whether something wasn't judged that should have been a violation.
+    pub(crate) fn has_unjudged(&self) -> bool
+        ensures { result ≡ has_unjudged self.now }
+    {
+        !self.unjudged.is_empty() || self.has_unlisted
     }
 
     /// Notes a proposal that can't be judged as a trace.

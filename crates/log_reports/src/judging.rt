@@ -5,10 +5,10 @@ use log_selections::{Kept, KnownLog};
 use std::alloc::Global;
 use std::sync::Wait;
 use std::thread::Threads;
-use trace_judging::{Fault, find_violation};
-use tso_ops::{OutOfMemory, Trace};
+use trace_reduction::is_violation;
+use tso_ops::OutOfMemory;
 
-/// Judges operations of a log as a trace, on one worker, until its effort is spent: they are accused where the trace is a violation.
+/// Judges operations of a log as a trace, in the caller's thread, until its effort is spent: they are accused where the trace is a violation.
 #[derive(Drop)]
 pub(crate) struct TraceJudge<'a, H> {
     rt: &'a H,
@@ -36,22 +36,6 @@ impl<'a, H: Threads + Wait> TraceJudge<'a, H> {
             effort: Effort::new(events, 0),
         }
     }
-
-    /// Judges a trace.
-    fn judge(&mut self, trace: &Trace) -> Result<bool, OutOfMemory> {
-        match find_violation(self.rt, self.alloc, trace, 1) {
-            Ok(finding) => {
-                let events = trace.events();
-                let rounds = finding.rounds as usize;
-                // How many rows the rounds had isn't known.
-                let rows = rounds.saturating_mul(events / 2);
-                self.effort.count(events, rounds, rows);
-                Ok(finding.certificate.is_some())
-            }
-            Err(Fault::OutOfMemory) => Err(OutOfMemory),
-            Err(_) => Ok(false),
-        }
-    }
 }
 
 impl<H: Threads + Wait> Judge for TraceJudge<'_, H> {
@@ -60,7 +44,7 @@ impl<H: Threads + Wait> Judge for TraceJudge<'_, H> {
             return Ok(false);
         }
         match self.known.trace_of(self.alloc, kept)? {
-            Some(trace) => self.judge(&trace),
+            Some(trace) => is_violation(self.rt, self.alloc, &trace, &mut self.effort),
             None => Ok(false),
         }
     }

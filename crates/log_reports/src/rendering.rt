@@ -134,7 +134,7 @@ fn push_unsearched(text: &mut String, findings: &LogFindings) -> Result<(), Allo
     ensures { OnOk result (string_bytes text.new ≡ string_bytes text.old ++ unsearched_text findings.now) }
 {
     push_if(text, findings.is_early, "SEARCH ENDED EARLY\n")?;
-    push_if(text, !findings.unjudged.is_empty(), "NOT ALL JUDGED\n")
+    push_if(text, findings.has_unjudged(), "NOT ALL JUDGED\n")
 }
 
 /// Appends that no load was judged, or that of a hundred more are unknown than so many.

@@ -5,6 +5,7 @@ ghost use Rattle.trace_judging.specs.Streams.{AppendsPrefix};
 ghost use Rattle.trace_judging.specs.WrittenReports.{LeavesAtFault, WritesWhole};
 ghost use Rattle.trace_judging.specs.declared.faults.Fault.{Fault};
 ghost use Rattle.tso_model.specs.Axioms.{IsConsistent};
+ghost use Rattle.tso_ops.specs.Events.{IsUnwritten};
 ghost use Rattle.log_text.specs.LogTexts.{SpellsLog};
 ghost use Rattle.log_text.specs.LogValues.{NumberedLog, log_operations, log_value};
 ghost use Rattle.trace_reports.specs.RefusalLines.{refusal_text};
@@ -35,6 +36,8 @@ pub struct LogOptions {
     pub effort: usize,
     /// How many of a hundred loads may have a source that the values don't tell, where all is said to be judged.
     pub max_unknown: usize,
+    /// Whether a text without the line `end` is refused.
+    pub needs_end: bool,
     /// What is printed.
     pub form: LogForm,
 }
@@ -77,6 +80,7 @@ pub fn report_log<H: Threads + Wait + AllocGlobal, M: Meter, R: Read, W: Write, 
 ) -> Result<LogVerdict, Fault>
     ensures report { IfOk result (WritesWhole (IsLogReportOfReader options (R.remaining reader.old)) (W.contents writer.old) (W.contents writer.new)) }
     ensures no_order { IfOk result (λ verdict. verdict ≡ LogVerdict.Violation → IfSome (R.remaining reader.old) (λ all. (log : NumberedLog) → SpellsLog all log → IsConsistent (log_operations log) → ⊥)) }
+    ensures written { IfOk result (λ verdict. verdict ≡ LogVerdict.NoViolation → IfSome (R.remaining reader.old) (λ all. (log : NumberedLog) → SpellsLog all log → (l : ℕ) → IsUnwritten (log_operations log) l → ⊥)) }
     ensures taken { IfOk result (λ _. IfSome (R.remaining reader.old) (λ all. Consumes (R.remaining reader.old) (R.remaining reader.new) all)) }
     ensures left { IfErr result (LeavesAtFault (IsLogReportOfReader options (R.remaining reader.old)) (W.contents writer.old) (W.contents writer.new)) }
     ensures told { (text : List ℕ) × AppendsPrefix (E.contents errors.old) (E.contents errors.new) text }
@@ -102,7 +106,7 @@ fn read_report<H: Threads + Wait + AllocGlobal, M: Meter, R: Read>(
 {
     let alloc = rt.alloc();
     let text = read_all(alloc, reader, usize::MAX)?;
-    match read_log(alloc, &text) {
+    match read_log(alloc, &text, options.needs_end) {
         Ok(log) => {
             // A long log's text takes memory that the search needs.
             drop(text);
@@ -146,7 +150,7 @@ fn verdict_of(
         return Ok(LogVerdict::Violation);
     }
     if findings.is_early
-        || !findings.unjudged.is_empty()
+        || findings.has_unjudged()
         || counts.is_nothing_judged()
         || is_too_unknown
     {

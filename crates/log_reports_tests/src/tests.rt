@@ -26,6 +26,7 @@ const LINES: LogOptions = LogOptions {
     most: 10,
     effort: 100,
     max_unknown: 100,
+    needs_end: false,
     form: LogForm::Lines,
 };
 
@@ -33,6 +34,7 @@ const TRACES: LogOptions = LogOptions {
     most: 10,
     effort: 100,
     max_unknown: 100,
+    needs_end: false,
     form: LogForm::Traces,
 };
 

@@ -10,7 +10,7 @@ use Rattle.log_selections.specs.declared.accesses.Access.{Access}
 use Rattle.log_selections.specs.declared.sources.LoadSource.{LoadSource}
 use Rattle.log_selections.specs.declared.sources.LoadSource.TheVariants.{Known, Ambiguous, Unwritten}
 use Rattle.log_selections.specs.Sources.{IsCountOf}
-use Rattle.log_selections.specs.Internal.Known.{HasTwoWriters, IsAmbiguousLoad, IsFound, IsOnlyWriter, IsWriter, with_found}
+use Rattle.log_selections.specs.Internal.Known.{AreAllListed, HasTwoWriters, IsAmbiguousLoad, IsFound, IsOnlyWriter, IsUnwrittenNumber, IsWriter, with_found}
 use Rattle.log_selections.proofs.SourceFacts.{distinct-none}
 use Rattle.log_selections.proofs.WriterFacts.{same_access}
 
@@ -64,6 +64,49 @@ one_writer first accesses written s only (q, r, differ, writes, writes_too) = di
 no_writer : (first : List (ℕ × ℕ)) (accesses : List Access) (written : ℕ × ℕ) → IsFound first accesses written Unwritten → HasTwoWriters first accesses written → ⊥
 no_writer first accesses written (other, none) (zero, r, differ, writes, writes_too) = other writes
 no_writer first accesses written (other, none) (suc k, r, differ, writes, writes_too) = none k writes
+
+-- what one has written isn't unwritten
+found_writer : (first : List (ℕ × ℕ)) (accesses : List Access) (written : ℕ × ℕ) (found : LoadSource) → (found ≡ Unwritten → ⊥) → IsFound first accesses written found → IsFound first accesses written Unwritten → ⊥
+found_writer first accesses written (Known zero) other (same, none) (differs, unwritten) = differs same
+found_writer first accesses written (Known (suc k)) other (differs_too, store, only) (differs, unwritten) = unwritten k store
+found_writer first accesses written Ambiguous other two none = no_writer first accesses written none two
+found_writer first accesses written Unwritten other is none = other refl
+
+-- ---- the unwritten loads among the first accesses
+
+module _ (first : List (ℕ × ℕ)) (accesses : List Access) where
+  -- where none is listed, none of the first i accesses is one
+  abbrev pub AreListedTo : ℕ → List ℕ → Type 0
+  AreListedTo i unwritten = unwritten ≡ [] → (n : ℕ) → n ≤ i → IsUnwrittenNumber first accesses n → ⊥
+
+  pub listed-none : AreListedTo 0 []
+  listed-none none n within (k, number, x, at, load, is) = omega (arith, within, number)
+
+  -- the next access is a store, or a load of which this was found
+  listed-next : (i : ℕ) → (IsUnwrittenNumber first accesses (suc i) → ⊥) → ((n : ℕ) → n ≤ i → IsUnwrittenNumber first accesses n → ⊥) → (n : ℕ) → n ≤ i + 1 → IsUnwrittenNumber first accesses n → ⊥
+  listed-next i other before n within is =
+      ⊎_elim (λ (same : n ≡ suc i). other (subst (IsUnwrittenNumber first accesses) same is)) (λ (differs : n ≡ suc i → ⊥). before n (omega (arith, within, differs)) is) (cases_eq n (suc i))
+
+  unwritten_of : (i : ℕ) (x : Access) → slice_get accesses i ≡ Some x → IsUnwrittenNumber first accesses (suc i) → (x.load ≡ true) × IsFound first accesses (x.a, x.value) Unwritten
+  unwritten_of i x at (k, number, y, at_y, load, is) =
+      let place : i ≡ k = omega (arith, number) in
+      let same : y ≡ x = same_access accesses i y x (ap (slice_get accesses) place ∙ at_y) at in
+      subst (λ (z : Access). (z.load ≡ true) × IsFound first accesses (z.a, z.value) Unwritten) same (load, is)
+
+  pub listed-store : (i : ℕ) (x : Access) (unwritten : List ℕ) → slice_get accesses i ≡ Some x → x.load ≡ false → AreListedTo i unwritten → AreListedTo (i + 1) unwritten
+  listed-store i x unwritten at store listed none = listed-next i (λ is. false≢true (sym store ∙ (unwritten_of i x at is).0)) (listed none)
+
+  pub listed-load : (i : ℕ) (x : Access) (found : LoadSource) (old new : List ℕ) → slice_get accesses i ≡ Some x → IsFound first accesses (x.a, x.value) found → (new ≡ [] → (old ≡ []) × (found ≡ Unwritten → ⊥)) →
+      AreListedTo i old → AreListedTo (i + 1) new
+  listed-load i x found old new at is noted listed none =
+      let (before, other) = noted none in
+      listed-next i (λ unwritten. found_writer first accesses (x.a, x.value) found other is (unwritten_of i x at unwritten).1) (listed before)
+
+  pub listed-all : (i : ℕ) (unwritten : List ℕ) → length accesses ≤ i → AreListedTo i unwritten → AreAllListed first accesses unwritten
+  listed-all i unwritten whole listed none n is = listed none n (within n is) is
+    where
+      within : (n : ℕ) → IsUnwrittenNumber first accesses n → n ≤ i
+      within n (k, number, x, at, load, found) = let below = slice_get_within accesses k x at in omega (arith, number, below, whole)
 
 -- ---- the ambiguous loads among the first accesses
 

@@ -5,7 +5,7 @@ use Rattle.std.proofs.lemmas.List.{map-append}
 use Rattle.std.proofs.lemmas.Option.{none-some, slice_get-map}
 use Rattle.tso_ops.specs.declared.events.Event.{Event}
 use Rattle.tso_ops.specs.Settings.{first_value}
-use Rattle.tso_ops.specs.Events.{event_at, events_from, events_of, events_of_lists, IsLoad, HasSource}
+use Rattle.tso_ops.specs.Events.{event_at, events_from, events_of, events_of_lists, IsLoad, IsUnwritten, HasSource}
 use Rattle.tso_ops.proofs.NumberFacts.{event_at-within}
 use Rattle.log_selections.specs.Sources.{HasTwoSources, IsAmbiguousCount, IsCountOf, IsOnlySource}
 use Rattle.log_text.specs.declared.logs.LogOperation.{LogOperation}
@@ -14,7 +14,7 @@ use Rattle.log_text.specs.declared.logs.LogOperation.TheVariants.{Ld, St, Sw, Mb
 use Rattle.log_text.specs.LogValues.{NumberedLog, log_operations, outcome_of, outcomes_of}
 use Rattle.log_selections.specs.declared.accesses.Access.{Access}
 use Rattle.log_selections.specs.Internal.Accesses.{accesses_of, accesses_of_list, accesses_of_lists}
-use Rattle.log_selections.specs.Internal.Known.{AreSources, IsAmbiguousLoad, IsOnlyWriter, IsWriter, source_in}
+use Rattle.log_selections.specs.Internal.Known.{AreAllListed, AreSources, IsAmbiguousLoad, IsOnlyWriter, IsUnwrittenNumber, IsWriter, source_in}
 use Rattle.log_selections.specs.Internal.Writers.{IsStoreOf}
 use Rattle.log_selections.proofs.CountFacts.{count-same}
 
@@ -168,6 +168,23 @@ module _ (log : NumberedLog) where
   sources_ambiguous (suc k) (r, s, differ, source, other) =
       let (e, at, is_load) = sourced_load (suc k) r source in
       (k, refl, access_of e, event_access k e at, is_load, (r, s, differ, source_writer (suc k) r e at source, source_writer (suc k) s e at other))
+
+  -- a load without a source is one that no access wrote
+  unsourced : (n : ℕ) → IsUnwritten (log_operations log) n → IsUnwrittenNumber log.first accesses n
+  unfolding access_of
+  unsourced zero ((e, at, is_load), none) = absurd (omega (arith, (event_at-within (log_operations log) 0 e at).0))
+  unsourced (suc k) ((e, at, is_load), none) = (
+    k,
+    refl,
+    access_of e,
+    event_access k e at,
+    is_load,
+    (λ first. none 0 ((e, at, is_load), (e, at, sym first)), λ j store. none (suc j) (access_store j (suc k) e at (e, at, is_load) store)),
+  )
+
+  -- where none is listed, each load has a source
+  pub all_written : (unwritten : List ℕ) → AreAllListed log.first (accesses_of_lists log.lists) unwritten → unwritten ≡ [] → (n : ℕ) → IsUnwritten (log_operations log) n → ⊥
+  all_written unwritten listed none n is = listed none n (unsourced n is)
 
   -- so many loads have two sources as are ambiguous
   pub ambiguous_count : (count : ℕ) → IsCountOf (IsAmbiguousLoad log.first (accesses_of_lists log.lists)) count → IsAmbiguousCount log count

@@ -1,5 +1,6 @@
-ghost use Rattle.std.specs.Prelude.{◌≡◌, IfOk, IfSome, true, nat_eq};
+ghost use Rattle.std.specs.Prelude.{◌≡◌, ℕ, [], IfOk, IfSome, true, nat_eq};
 ghost use Rattle.std.specs.List.{IsDistinct};
+ghost use Rattle.tso_ops.specs.Events.{IsUnwritten};
 ghost use Rattle.log_text.specs.LogValues.{log_operations, log_value};
 ghost use Rattle.log_selections.specs.Cuts.{IsCut};
 ghost use Rattle.log_selections.specs.Sources.{IsAmbiguousCount};
@@ -32,7 +33,7 @@ impl Model for KnownLog {
 
     ghost view = { λ k. log_value k.log };
 
-    ghost invariant = { λ k. IsKnownLog k.log (rows k.numbers.items) k.sources.numbers.items k.sources.ambiguous };
+    ghost invariant = { λ k. IsKnownLog k.log (rows k.numbers.items) k.sources.numbers.items k.sources.ambiguous k.sources.unwritten.items };
 }
 
 impl KnownLog {
@@ -76,7 +77,9 @@ impl KnownLog {
     }
 
     /// The numbers of the loads that read what nothing wrote, those of swaps counted, in ascending order.
-    pub fn unwritten_loads(&self) -> &[usize] {
+    pub fn unwritten_loads(&self) -> &[usize]
+        ensures { result.now ≡ [] → (l : ℕ) → IsUnwritten (log_operations self.now) l → ⊥ }
+    {
         &self.sources.unwritten
     }
 

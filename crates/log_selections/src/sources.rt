@@ -1,10 +1,11 @@
 //! The sources of the loads of a log that its values tell.
-ghost use Rattle.std.specs.Prelude.{◌≡◌, ◌≢◌, ◌+◌, ◌<◌, ◌^◌, ℕ, List, length, IfOk, OnOk, unwrap_or, nat_eq};
+ghost use Rattle.std.specs.Prelude.{◌≡◌, ◌≢◌, ◌+◌, ◌<◌, ◌^◌, ℕ, List, [], length, IfOk, OnOk, unwrap_or, nat_eq};
 ghost use Rattle.std.specs.HashMap.{get};
 ghost use Rattle.tso_ops.specs.Settings.{first_value};
 ghost use Rattle.log_selections.specs.Sources.{IsCountOf};
-ghost use Rattle.log_selections.specs.Internal.Known.{AreSources, IsAmbiguousLoad, IsFound, known_number, with_found};
+ghost use Rattle.log_selections.specs.Internal.Known.{AreAllListed, AreSources, IsAmbiguousLoad, IsFound, known_number, with_found};
 ghost use Rattle.log_selections.specs.Internal.Writers.{FindsWriters};
+ghost use Rattle.log_selections.specs.declared.sources.LoadSource.{LoadSource};
 
 use crate::accesses::Access;
 use crate::writers::{Writers, find_first_values, find_writers};
@@ -41,6 +42,7 @@ pub(crate) fn find_sources(
 ) -> Result<Sources, OutOfMemory>
     ensures numbers { IfOk result (λ sources. AreSources first.now accesses.now sources.numbers.items) }
     ensures ambiguous { IfOk result (λ sources. IsCountOf (IsAmbiguousLoad first.now accesses.now) sources.ambiguous) }
+    ensures unwritten { IfOk result (λ sources. AreAllListed first.now accesses.now sources.unwritten.items) }
 {
     let writers = find_writers(alloc, accesses)?;
     let values = find_first_values(alloc, first)?;
@@ -69,6 +71,7 @@ impl Sources {
         ensures number { IfOk result (λ number. number ≡ known_number found) }
         ensures kept { self.new.numbers ≡ self.old.numbers }
         ensures ambiguous { OnOk result (self.old.ambiguous + 1 < 2 ^ 64 → self.new.ambiguous ≡ with_found self.old.ambiguous found) }
+        ensures unwritten { OnOk result (self.new.unwritten.items ≡ [] → (self.old.unwritten.items ≡ []) × (found ≢ LoadSource.Unwritten)) }
     {
         match found {
             LoadSource::Known(number) => return Ok(Some(number)),

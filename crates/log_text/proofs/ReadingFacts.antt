@@ -1,5 +1,5 @@
 -- Lemmas on the log that lines make, one line after another.
-use Rattle.std.proofs.Common.{◌≡◌, ℕ, suc, ◌+◌, ◌-◌, ◌<◌, ◌≤◌, ◌||◌, Bool, true, false, not, eqb, leb, ltb, cond, max, List, [], ◌∷◌, ◌++◌, length, get_or, set, map, Some, Result, Ok, Err, IfOk, slice_get, refl, ap, sym, ◌∙◌, arith, append_assoc, ⊎_elim}
+use Rattle.std.proofs.Common.{◌≡◌, ℕ, suc, ◌+◌, ◌-◌, ◌<◌, ◌≤◌, ◌||◌, Bool, true, false, not, eqb, leb, ltb, cond, max, List, [], ◌∷◌, ◌++◌, length, get_or, set, map, Some, Result, Ok, Err, IfOk, slice_get, refl, ap, sym, ◌∙◌, arith, append_assoc, ⊎_elim, inl, inr}
 use Rattle.std.specs.Global.{Vec}
 use Rattle.std.specs.List.{count_by, flat_map, list_any, range_with_len, sum_by}
 use Rattle.std.specs.Result.{is_ok, OnOk}
@@ -14,16 +14,17 @@ use Rattle.std.proofs.lemmas.Option.{slice_get-get_or}
 use Rattle.line_text.specs.Lines.{is_empty}
 use Rattle.tso_ops.specs.declared.settings.Order.{Order}
 use Rattle.tso_ops.specs.Values.{rows}
-use Rattle.tso_text.specs.declared.faults.Why.TheVariants.{InitOrder}
+use Rattle.tso_text.specs.declared.faults.Why.{Why}
+use Rattle.tso_text.specs.declared.faults.Why.TheVariants.{BadLine, InitOrder, OutOfMemory}
 use Rattle.log_text.specs.declared.lines.LogLine.{LogLine}
-use Rattle.log_text.specs.declared.lines.LogLine.TheVariants.{Pso, First, Issued, Unknown}
+use Rattle.log_text.specs.declared.lines.LogLine.TheVariants.{Pso, First, Issued, Unknown, End}
 use Rattle.log_text.specs.declared.logs.Log.{Log}
 use Rattle.log_text.specs.declared.logs.LogOperation.{LogOperation}
 use Rattle.log_text.specs.declared.logs.LoggedOperation.{LoggedOperation}
 use Rattle.log_text.specs.declared.readings.Reading.{Reading}
-use Rattle.log_text.specs.LogTexts.{order_of, entries_in, unknown_in, issued_in, issued_from, is_issued, is_not_below, processors_to, processors_in, fault_after, is_operation_at, without_addresses, log_of_lines}
+use Rattle.log_text.specs.LogTexts.{order_of, entries_in, unknown_in, issued_in, issued_from, is_end, is_issued, is_not_below, processors_to, processors_in, fault_after, fault_among, is_operation_at, without_addresses, log_of_lines}
 use Rattle.log_text.specs.LogValues.{NumberedLog, log_value}
-use Rattle.log_text.specs.Internal.Readings.{has_not_below, IsLastGreatest, HoldsLines, IsNext}
+use Rattle.log_text.specs.Internal.Readings.{has_not_below, IsLastGreatest, HoldsLines, IsNext, IsNextAmong, IsAccepted, IsAcceptedAmong, IsRefused, IsRefusedAmong}
 
 or_true : (b : Bool) → (b || true) ≡ true
 or_true true = refl
@@ -66,6 +67,7 @@ entries_not_below a (Pso ∷ lines) = entries_not_below a lines
 entries_not_below a (First b v ∷ lines) = ap (λ t. leb a b || t) (entries_not_below a lines)
 entries_not_below a (Issued p x ∷ lines) = entries_not_below a lines
 entries_not_below a (Unknown p b ∷ lines) = entries_not_below a lines
+entries_not_below a (End ∷ lines) = entries_not_below a lines
 
 -- ---- one more line
 
@@ -75,10 +77,12 @@ order_of-push [] Pso other = absurd (other refl)
 order_of-push [] (First a v) other = refl
 order_of-push [] (Issued p x) other = refl
 order_of-push [] (Unknown p a) other = refl
+order_of-push [] End other = refl
 order_of-push (Pso ∷ lines) line other = refl
 order_of-push (First a v ∷ lines) line other = order_of-push lines line other
 order_of-push (Issued p x ∷ lines) line other = order_of-push lines line other
 order_of-push (Unknown p a ∷ lines) line other = order_of-push lines line other
+order_of-push (End ∷ lines) line other = order_of-push lines line other
 
 issued_from-push : (n : ℕ) (lines : List LogLine) (line : LogLine) (p : ℕ) → issued_from n (lines ++ line ∷ []) p ≡ issued_from n lines p ++ issued_in p (n + length lines) line
 issued_from-push n [] line p = append-nil (issued_in p n line) ∙ ap (λ m. issued_in p m line) (omega arith)
@@ -100,6 +104,9 @@ unknown-push lines line = flat_map-append unknown_in lines (line ∷ []) ∙ ap 
 issued-push : (lines : List LogLine) (line : LogLine) → list_any is_issued (lines ++ line ∷ []) ≡ (list_any is_issued lines || is_issued line)
 issued-push lines line = list_any-append is_issued lines (line ∷ []) ∙ ap (λ b. list_any is_issued lines || b) (or_false (is_issued line))
 
+ended-push : (lines : List LogLine) (line : LogLine) → list_any is_end (lines ++ line ∷ []) ≡ (list_any is_end lines || is_end line)
+ended-push lines line = list_any-append is_end lines (line ∷ []) ∙ ap (λ b. list_any is_end lines || b) (or_false (is_end line))
+
 processors-push : (lines : List LogLine) (line : LogLine) → processors_in (lines ++ line ∷ []) ≡ max (processors_to line) (processors_in lines)
 processors-push [] line = refl
 processors-push (other ∷ lines) line = ap (max (processors_to other)) (processors-push lines line) ∙ omega arith
@@ -110,9 +117,9 @@ some_longer (x ∷ xs) p m long = refl
 
 -- a first value, where no line of a processor came before and its address is above those before
 pub entry_next : (reading new : Reading) (before : List LogLine) (a v : ℕ) → HoldsLines reading before → rows reading.log.lists.items ≡ [] → has_not_below a reading.log.first.items ≡ false →
-    new.log.order ≡ reading.log.order → new.log.first.items ≡ reading.log.first.items ++ (a, v) ∷ [] → rows new.log.lists.items ≡ rows reading.log.lists.items → new.unknown.items ≡ reading.unknown.items →
-    IsNext before (First a v) new
-entry_next reading new before a v holds none above order first lists unknown =
+    new.log.order ≡ reading.log.order → new.log.first.items ≡ reading.log.first.items ++ (a, v) ∷ [] → rows new.log.lists.items ≡ rows reading.log.lists.items → new.unknown.items ≡ reading.unknown.items → new.is_ended ≡ reading.is_ended →
+    IsNextAmong before (First a v) new
+entry_next reading new before a v holds none above order first lists unknown ended =
     let idle : list_any is_issued before ≡ false = holds.issued ∙ ap (λ xs. not (is_empty xs)) none in
     let below : list_any (is_not_below a) before ≡ false = entries_not_below a before ∙ ap (has_not_below a) (sym holds.first) ∙ above in
     record {
@@ -125,12 +132,13 @@ entry_next reading new before a v holds none above order first lists unknown =
         count = ap length lists ∙ holds.count ∙ omega arith ∙ sym (processors-push before (First a v));
         lists = λ p. ap (λ xs. get_or xs p []) lists ∙ holds.lists p ∙ sym (unissued p before (First a v) (λ n. refl));
         unknown = unknown ∙ holds.unknown ∙ sym (append-nil (flat_map unknown_in before)) ∙ sym (unknown-push before (First a v));
+        ended = ended ∙ holds.ended ∙ sym (or_false (list_any is_end before)) ∙ sym (ended-push before (First a v));
       };
     }
 
 -- a first value, whose address isn't above those before
 pub entry_refused : (reading : Reading) (before : List LogLine) (a v : ℕ) → HoldsLines reading before → rows reading.log.lists.items ≡ [] → has_not_below a reading.log.first.items ≡ true →
-    fault_after before (First a v) ≡ Some InitOrder
+    fault_among before (First a v) ≡ Some InitOrder
 entry_refused reading before a v holds none high =
     let idle : list_any is_issued before ≡ false = holds.issued ∙ ap (λ xs. not (is_empty xs)) none in
     let reached : list_any (is_not_below a) before ≡ true = entries_not_below a before ∙ ap (has_not_below a) (sym holds.first) ∙ high in
@@ -169,10 +177,10 @@ lists_next old new before p number x q inside numbered is says =
 
 -- there is a list for the processor, by lists that have as many as before or more
 pub operation_next : (reading new : Reading) (grown : List (List LoggedOperation)) (before : List LogLine) (p number : ℕ) (x : LogOperation) → HoldsLines reading before → p < 4096 → number ≡ suc (length before) →
-    new.log.order ≡ reading.log.order → new.log.first.items ≡ reading.log.first.items → new.unknown.items ≡ reading.unknown.items →
+    new.log.order ≡ reading.log.order → new.log.first.items ≡ reading.log.first.items → new.unknown.items ≡ reading.unknown.items → new.is_ended ≡ reading.is_ended →
     length grown ≡ max (p + 1) (length (rows reading.log.lists.items)) → ((q : ℕ) → get_or grown q [] ≡ get_or (rows reading.log.lists.items) q []) →
-    rows new.log.lists.items ≡ set grown p (get_or grown p [] ++ record { line = number; operation = x } ∷ []) → IsNext before (Issued p x) new
-operation_next reading new grown before p number x holds low numbered order first unknown long same lists =
+    rows new.log.lists.items ≡ set grown p (get_or grown p [] ++ record { line = number; operation = x } ∷ []) → IsNextAmong before (Issued p x) new
+operation_next reading new grown before p number x holds low numbered order first unknown ended long same lists =
     let within : ltb 4095 p ≡ false = grind (arith, nat_tests) in
     let total : length (rows new.log.lists.items) ≡ max (p + 1) (length (rows reading.log.lists.items)) = ap length lists ∙ length-set grown p (get_or grown p [] ++ record { line = number; operation = x } ∷ []) ∙ long in
     record {
@@ -185,15 +193,16 @@ operation_next reading new grown before p number x holds low numbered order firs
         count = total ∙ ap (max (p + 1)) holds.count ∙ omega arith ∙ sym (processors-push before (Issued p x));
         lists = λ q. lists_next grown (rows new.log.lists.items) before p number x q (omega (arith, long)) numbered lists (same q ∙ holds.lists q);
         unknown = unknown ∙ holds.unknown ∙ sym (append-nil (flat_map unknown_in before)) ∙ sym (unknown-push before (Issued p x));
+        ended = ended ∙ holds.ended ∙ sym (or_false (list_any is_end before)) ∙ sym (ended-push before (Issued p x));
       };
     }
 
 -- a line `un` of a processor
 pub unknown_next : (reading new : Reading) (before : List LogLine) (p a : ℕ) → HoldsLines reading before → p < 4096 →
-    new.log.order ≡ reading.log.order → new.log.first.items ≡ reading.log.first.items → new.unknown.items ≡ reading.unknown.items ++ a ∷ [] →
+    new.log.order ≡ reading.log.order → new.log.first.items ≡ reading.log.first.items → new.unknown.items ≡ reading.unknown.items ++ a ∷ [] → new.is_ended ≡ reading.is_ended →
     length (rows new.log.lists.items) ≡ max (p + 1) (length (rows reading.log.lists.items)) → ((q : ℕ) → get_or (rows new.log.lists.items) q [] ≡ get_or (rows reading.log.lists.items) q []) →
-    IsNext before (Unknown p a) new
-unknown_next reading new before p a holds low order first unknown long same =
+    IsNextAmong before (Unknown p a) new
+unknown_next reading new before p a holds low order first unknown ended long same =
     let within : ltb 4095 p ≡ false = grind (arith, nat_tests) in
     record {
       clean = rw within refl;
@@ -205,8 +214,45 @@ unknown_next reading new before p a holds low order first unknown long same =
         count = long ∙ ap (max (p + 1)) holds.count ∙ omega arith ∙ sym (processors-push before (Unknown p a));
         lists = λ q. same q ∙ holds.lists q ∙ sym (unissued q before (Unknown p a) (λ n. refl));
         unknown = unknown ∙ ap (λ xs. xs ++ a ∷ []) holds.unknown ∙ sym (unknown-push before (Unknown p a));
+        ended = ended ∙ holds.ended ∙ sym (or_false (list_any is_end before)) ∙ sym (ended-push before (Unknown p a));
       };
     }
+
+-- a line `end`
+pub end_next : (reading : Reading) (before : List LogLine) → HoldsLines reading before → IsNextAmong before End (record reading { is_ended = true })
+end_next reading before holds = record {
+  clean = refl;
+  holds = record {
+    order = holds.order ∙ sym (order_of-push before End (λ e. absurd cc));
+    first = holds.first ∙ sym (append-nil (flat_map entries_in before)) ∙ sym (entries-push before End);
+    greatest = holds.greatest;
+    issued = issued-push before End ∙ or_false (list_any is_issued before) ∙ holds.issued;
+    count = holds.count ∙ omega arith ∙ sym (processors-push before End);
+    lists = λ p. holds.lists p ∙ sym (unissued p before End (λ n. refl));
+    unknown = holds.unknown ∙ sym (append-nil (flat_map unknown_in before)) ∙ sym (unknown-push before End);
+    ended = sym (or_true (list_any is_end before)) ∙ sym (ended-push before End);
+  };
+}
+
+-- ---- where no line `end` came
+
+module _ (old : Reading) (unended : old.is_ended ≡ false) where
+  pub accepted_after : (number : ℕ) (line : LogLine) (new : Reading) → IsAcceptedAmong old number line new → IsAccepted old number line new
+  accepted_after number line new is = λ before holds numbered.
+      let next = is before holds numbered in
+      let none : list_any is_end before ≡ false = sym holds.ended ∙ unended in
+      record { clean = rw none next.clean; holds = next.holds }
+
+  pub refused_after : (line : LogLine) (why : Why) → IsRefusedAmong old line why → IsRefused old line why
+  refused_after line why is = λ before holds.
+      let none : list_any is_end before ≡ false = sym holds.ended ∙ unended in
+      ⊎_elim (λ (memory : why ≡ OutOfMemory). inl memory) (λ (fault : fault_among before line ≡ Some why). inr (rw none fault)) (is before holds)
+
+-- where one came, no line may follow
+pub refused_at_end : (old : Reading) (line : LogLine) → old.is_ended ≡ true → IsRefused old line BadLine
+refused_at_end old line is = λ before holds.
+    let some : list_any is_end before ≡ true = sym holds.ended ∙ is in
+    inr (rw some refl)
 
 -- ---- the lists of the processors
 

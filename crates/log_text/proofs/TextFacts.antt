@@ -1,7 +1,8 @@
 -- Lemmas on the texts of logs: how far a reader has come, and that a text spells one log or has a refusal.
-use Rattle.std.proofs.Common.{◌≡◌, ◌≢◌, ℕ, suc, ◌+◌, eqb, Bool, false, List, [], ◌∷◌, ◌++◌, length, map, None, Some, Result, Ok, Err, refl, ap, sym, ◌∙◌, arith, append_assoc, ⊎_elim, ◌⊎◌, inl, inr}
+use Rattle.std.proofs.Common.{◌≡◌, ◌≢◌, ℕ, suc, ◌+◌, ◌&&◌, eqb, Bool, true, false, not, List, [], ◌∷◌, ◌++◌, length, map, None, Some, Result, Ok, Err, refl, ap, sym, ◌∙◌, arith, append_assoc, ⊎_elim, ◌⊎◌, inl, inr}
 use Rattle.std.proofs.lemmas.Bool.Decides.{nat_tests}
 use Rattle.std.proofs.lemmas.List.{append_cancel_right, length-map, length_push, map-append}
+use Rattle.std.specs.List.{list_any}
 use Rattle.line_text.specs.Lines.{parts_of}
 use Rattle.line_text.proofs.CutFacts.{split_parts}
 use Rattle.tso_text.specs.declared.faults.Why.{Why}
@@ -9,7 +10,7 @@ use Rattle.tso_text.specs.declared.faults.Why.TheVariants.{BadLine, OutOfMemory}
 use Rattle.log_text.specs.declared.lines.LogLine.{LogLine}
 use Rattle.log_text.specs.declared.readings.Reading.{Reading}
 use Rattle.log_text.specs.LogLines.{line_said}
-use Rattle.log_text.specs.LogTexts.{fault_after, log_of_lines, AreSaid, SpellsLog, IsLogRefusal, IsPartRefused}
+use Rattle.log_text.specs.LogTexts.{fault_after, is_end, log_of_lines, AreSaid, SpellsLog, IsEndedAsNeeded, IsLogRefusal, IsPartRefused}
 use Rattle.log_text.specs.LogValues.{NumberedLog}
 use Rattle.log_text.specs.Internal.Readings.{HoldsLines, HasFault, IsTextAccepted, IsTextRefused}
 
@@ -101,17 +102,32 @@ AreSaid-push texts lines text line are says clean = record {
 
 -- ---- one log or one refusal
 
+-- two readings of a text that isn't cut have the same lines
+same_lines : (texts others : List (List ℕ)) (lines all : List LogLine) → texts ++ [] ∷ [] ≡ others ++ [] ∷ [] → AreSaid texts lines → AreSaid others all → lines ≡ all
+same_lines texts others lines all same said spelled =
+    let parts : texts ≡ others = append_cancel_right texts others ([] ∷ []) same in
+    same_said lines all (sym said.said ∙ ap (map line_said) parts ∙ spelled.said)
+
 -- a text spells one log at most
 pub one_log : (text : List ℕ) (t u : NumberedLog) → SpellsLog text t → SpellsLog text u → t ≡ u
 one_log text t u s r =
-    let texts : s.texts ≡ r.texts = append_cancel_right s.texts r.texts ([] ∷ []) (sym s.whole ∙ r.whole) in
-    let lines : s.lines ≡ r.lines = same_said s.lines r.lines (sym s.said.said ∙ ap (map line_said) texts ∙ r.said.said) in
+    let lines : s.lines ≡ r.lines = same_lines s.texts r.texts s.lines r.lines (sym s.whole ∙ r.whole) s.said r.said in
     s.is ∙ ap log_of_lines lines ∙ sym r.is
 
-not_both : (texts : List (List ℕ)) (lines : List LogLine) (part : List ℕ) (after : List (List ℕ)) (why : Why) (whole : List (List ℕ)) (all : List LogLine) →
-    whole ++ [] ∷ [] ≡ texts ++ part ∷ after → AreSaid texts lines → AreSaid whole all → IsPartRefused lines part after why → ⊥
-not_both texts lines part [] why whole all same said spelled fault = fault.0 (sym (same_last whole texts [] part same))
-not_both texts lines part (next ∷ after) why whole all same said spelled fault =
+not_both : (needs_end : Bool) (text : List ℕ) (texts : List (List ℕ)) (lines : List LogLine) (part : List ℕ) (after : List (List ℕ)) (why : Why) (whole : List (List ℕ)) (all : List LogLine) →
+    parts_of text ≡ whole ++ [] ∷ [] → parts_of text ≡ texts ++ part ∷ after → AreSaid texts lines → AreSaid whole all → IsEndedAsNeeded needs_end text → IsPartRefused needs_end lines part after why → ⊥
+not_both needs_end text texts lines part [] why whole all is cut said spelled ended fault =
+    let last : [] ≡ part = same_last whole texts [] part (sym is ∙ cut) in
+    ⊎_elim
+    (λ (some : part ≢ []). some (sym last))
+    (λ (missing : (needs_end ≡ true) × (list_any is_end lines ≡ false)).
+    let end = ended missing.0 in
+    let same : lines ≡ end.lines = same_lines texts end.texts lines end.lines (ap (λ p. texts ++ p ∷ []) last ∙ sym cut ∙ end.whole) said end.said in
+    let both : true ≡ false = sym end.ended ∙ ap (list_any is_end) (sym same) ∙ missing.1 in
+    absurd cc)
+    fault.0
+not_both needs_end text texts lines part (next ∷ after) why whole all is cut said spelled ended fault =
+    let same : whole ++ [] ∷ [] ≡ texts ++ part ∷ next ∷ after = sym is ∙ cut in
     let at = split_last whole texts after [] part next same in
     let line = said_at texts part at.0 lines all said.said (ap (map line_said) (sym at.1) ∙ spelled.said) in
     let clean : fault_after lines line.0 ≡ None = spelled.clean lines line.0 line.1 line.3 in
@@ -125,8 +141,8 @@ not_both texts lines part (next ∷ after) why whole all same said spelled fault
     fault
 
 -- a text with a refusal spells no log
-pub never_both : (text : List ℕ) (t : NumberedLog) (line : ℕ) (why : Why) → SpellsLog text t → IsLogRefusal text line why → ⊥
-never_both text t line why s r = not_both r.texts r.lines r.part r.after why s.texts s.lines (sym s.whole ∙ r.whole) r.said s.said r.fault
+pub never_both : (needs_end : Bool) (text : List ℕ) (t : NumberedLog) (line : ℕ) (why : Why) → SpellsLog text t → IsEndedAsNeeded needs_end text → IsLogRefusal needs_end text line why → ⊥
+never_both needs_end text t line why s ended r = not_both needs_end text r.texts r.lines r.part r.after why s.texts s.lines s.whole r.whole r.said s.said ended r.fault
 
 -- as many lines as texts that say them
 same_count : (texts : List (List ℕ)) (lines : List LogLine) → map line_said texts ≡ map said_ok lines → length texts ≡ length lines
@@ -170,11 +186,46 @@ Reached-end text line rest reading log r cut none is = record {
   is = is r.lines r.holds;
 }
 
+-- and an `end` that is needed came
+pub Reached-ended : (needs_end : Bool) (text : List ℕ) (line : ℕ) (rest : List ℕ) (reading : Reading) → Reached text line rest reading → parts_of rest ≡ rest ∷ [] → rest ≡ [] → (needs_end && not reading.is_ended) ≡ false →
+    IsEndedAsNeeded needs_end text
+Reached-ended needs_end text line rest reading r cut none lacks = λ needed. record {
+  texts = r.texts;
+  lines = r.lines;
+  whole = r.whole ∙ ap (λ x. r.texts ++ x) (cut ∙ ap (λ x. x ∷ []) none);
+  said = r.said;
+  ended = sym r.holds.ended ∙ came needs_end reading.is_ended lacks needed;
+}
+  where
+    came : (needed ended : Bool) → (needed && not ended) ≡ false → needed ≡ true → ended ≡ true
+    came true true lacks is = refl
+    came true false lacks is = absurd cc
+    came false ended lacks is = absurd cc
+
+-- or it didn't
+pub lacking_refused : (needs_end : Bool) (text : List ℕ) (line : ℕ) (rest : List ℕ) (reading : Reading) → Reached text line rest reading → parts_of rest ≡ rest ∷ [] → (needs_end && not reading.is_ended) ≡ true →
+    IsLogRefusal needs_end text line BadLine
+lacking_refused needs_end text line rest reading r cut lacks = record {
+  texts = r.texts;
+  lines = r.lines;
+  part = rest;
+  after = [];
+  whole = r.whole ∙ ap (λ x. r.texts ++ x) cut;
+  said = r.said;
+  is = r.count;
+  fault = (inr (missing needs_end reading.is_ended lacks r.holds.ended), refl);
+}
+  where
+    missing : (needed ended : Bool) → (needed && not ended) ≡ true → ended ≡ list_any is_end r.lines → (needed ≡ true) × (list_any is_end r.lines ≡ false)
+    missing true false lacks is = (refl, sym is)
+    missing true true lacks is = absurd cc
+    missing false ended lacks is = absurd cc
+
 -- the line is refused
-pub line_refused : (text : List ℕ) (line : ℕ) (rest : List ℕ) (reading : Reading) (part after : List ℕ) (why : Why) → Reached text line rest reading → parts_of rest ≡ part ∷ parts_of after →
-    IsTextRefused reading part why → (why ≡ OutOfMemory) ⊎ IsLogRefusal text line why
+pub line_refused : (needs_end : Bool) (text : List ℕ) (line : ℕ) (rest : List ℕ) (reading : Reading) (part after : List ℕ) (why : Why) → Reached text line rest reading → parts_of rest ≡ part ∷ parts_of after →
+    IsTextRefused reading part why → (why ≡ OutOfMemory) ⊎ IsLogRefusal needs_end text line why
 unfolding parts_of
-line_refused text line rest reading part after why r cut refused =
+line_refused needs_end text line rest reading part after why r cut refused =
     let p = split_parts (λ b. eqb b 10) after in
     ⊎_elim
     (λ (memory : why ≡ OutOfMemory). inl memory)
@@ -191,8 +242,8 @@ line_refused text line rest reading part after why r cut refused =
     (refused r.lines r.holds)
 
 -- bytes stand after the last line
-pub unended_refused : (text : List ℕ) (line : ℕ) (rest : List ℕ) (reading : Reading) → Reached text line rest reading → parts_of rest ≡ rest ∷ [] → rest ≢ [] → IsLogRefusal text line BadLine
-unended_refused text line rest reading r cut some = record {
+pub unended_refused : (needs_end : Bool) (text : List ℕ) (line : ℕ) (rest : List ℕ) (reading : Reading) → Reached text line rest reading → parts_of rest ≡ rest ∷ [] → rest ≢ [] → IsLogRefusal needs_end text line BadLine
+unended_refused needs_end text line rest reading r cut some = record {
   texts = r.texts;
   lines = r.lines;
   part = rest;
@@ -200,15 +251,15 @@ unended_refused text line rest reading r cut some = record {
   whole = r.whole ∙ ap (λ x. r.texts ++ x) cut;
   said = r.said;
   is = r.count;
-  fault = (some, refl);
+  fault = (inl some, refl);
 }
 
 -- the fault that a reader answers is the refusal at its line, unless memory ran out
-pub answered : (text : List ℕ) (line : ℕ) (why : Why) (fault_line : ℕ) (fault_why : Why) → fault_why ≡ why → (why ≢ OutOfMemory → fault_line ≡ line) →
-    (why ≡ OutOfMemory) ⊎ IsLogRefusal text line why → fault_why ≢ OutOfMemory → IsLogRefusal text fault_line fault_why
-answered text line why fault_line fault_why is stands refused other =
+pub answered : (needs_end : Bool) (text : List ℕ) (line : ℕ) (why : Why) (fault_line : ℕ) (fault_why : Why) → fault_why ≡ why → (why ≢ OutOfMemory → fault_line ≡ line) →
+    (why ≡ OutOfMemory) ⊎ IsLogRefusal needs_end text line why → fault_why ≢ OutOfMemory → IsLogRefusal needs_end text fault_line fault_why
+answered needs_end text line why fault_line fault_why is stands refused other =
     let not_memory : why ≢ OutOfMemory = λ memory. other (is ∙ memory) in
     ⊎_elim
     (λ (memory : why ≡ OutOfMemory). absurd (not_memory memory))
-    (λ (refusal : IsLogRefusal text line why). rw (is, stands not_memory) refusal)
+    (λ (refusal : IsLogRefusal needs_end text line why). rw (is, stands not_memory) refusal)
     refused

@@ -10,7 +10,7 @@ use Rattle.tso_text.specs.declared.faults.Why.TheVariants.{BadLine, BadModel}
 use Rattle.log_text.specs.declared.logs.LogOperation.{LogOperation}
 use Rattle.log_text.specs.declared.logs.LogOperation.TheVariants.{Ld, St, Sw, Mb, Sb}
 use Rattle.log_text.specs.declared.lines.LogLine.{LogLine}
-use Rattle.log_text.specs.declared.lines.LogLine.TheVariants.{Pso, First, Issued, Unknown}
+use Rattle.log_text.specs.declared.lines.LogLine.TheVariants.{Pso, First, Issued, Unknown, End}
 
 -- what a keyword and the tokens after it say: `ld A R`, `st A V`, `sw A R V`, `mb` or `stbar`
 unfoldable pub operation_said : List ℕ → List (List ℕ) → Result LogOperation Why
@@ -43,4 +43,4 @@ tokens_said (word ∷ tokens) =
 
 -- what a line says, or its fault: the one memory model that has a line is PSO
 unfoldable pub line_said : List ℕ → Result LogLine Why
-line_said line = if bytes_eq line (codes "model pso") then Ok Pso else tokens_said (tokens_of line)
+line_said line = if bytes_eq line (codes "model pso") then Ok Pso else if bytes_eq line (codes "end") then Ok End else tokens_said (tokens_of line)

@@ -7,7 +7,7 @@ use Rattle.tso_ops.specs.declared.settings.Order.TheVariants.{Tso as OrderTso, P
 use Rattle.tso_text.specs.declared.faults.Why.{Why}
 use Rattle.tso_text.specs.declared.faults.Why.TheVariants.{BadLine, BadModel, InitOrder, ProcessorRange}
 use Rattle.log_text.specs.declared.lines.LogLine.{LogLine}
-use Rattle.log_text.specs.declared.lines.LogLine.TheVariants.{Pso, First, Issued, Unknown}
+use Rattle.log_text.specs.declared.lines.LogLine.TheVariants.{Pso, First, Issued, Unknown, End}
 use Rattle.log_text.specs.declared.logs.LogOperation.{LogOperation}
 use Rattle.log_text.specs.declared.logs.LogOperation.TheVariants.{Ld, St, Sw, Mb, Sb}
 use Rattle.log_text.specs.declared.logs.LoggedOperation.{LoggedOperation}
@@ -23,6 +23,7 @@ order_of (Pso ∷ lines) = OrderPso
 order_of (First a v ∷ lines) = order_of lines
 order_of (Issued p x ∷ lines) = order_of lines
 order_of (Unknown p a ∷ lines) = order_of lines
+order_of (End ∷ lines) = order_of lines
 
 -- the first value that the line says
 abbrev pub entries_in : LogLine → List (ℕ × ℕ)
@@ -30,6 +31,7 @@ entries_in Pso = []
 entries_in (First a v) = (a, v) ∷ []
 entries_in (Issued p x) = []
 entries_in (Unknown p a) = []
+entries_in End = []
 
 -- the address to which something unknown was done, by this line
 abbrev pub unknown_in : LogLine → List ℕ
@@ -37,6 +39,7 @@ unknown_in Pso = []
 unknown_in (First a v) = []
 unknown_in (Issued p x) = []
 unknown_in (Unknown p a) = a ∷ []
+unknown_in End = []
 
 -- how many processors there are up to that of the line
 abbrev pub processors_to : LogLine → ℕ
@@ -44,6 +47,7 @@ processors_to Pso = 0
 processors_to (First a v) = 0
 processors_to (Issued p x) = suc p
 processors_to (Unknown p a) = suc p
+processors_to End = 0
 
 -- how many there are up to the last that has a line
 abbrev pub processors_in : List LogLine → ℕ
@@ -56,6 +60,7 @@ issued_in p number Pso = []
 issued_in p number (First a v) = []
 issued_in p number (Issued q x) = if p == q then record { line = number; operation = x } ∷ [] else []
 issued_in p number (Unknown q a) = []
+issued_in p number End = []
 
 -- those that the lines from this number on say
 abbrev pub issued_from : ℕ → List LogLine → ℕ → List LoggedOperation
@@ -103,6 +108,7 @@ is_issued Pso = false
 is_issued (First a v) = false
 is_issued (Issued p x) = true
 is_issued (Unknown p a) = true
+is_issued End = false
 
 -- the line is of an address that isn't below this one
 abbrev pub is_not_below : ℕ → LogLine → Bool
@@ -110,18 +116,32 @@ is_not_below a Pso = false
 is_not_below a (First b v) = nat_le a b
 is_not_below a (Issued p x) = false
 is_not_below a (Unknown p b) = false
+is_not_below a End = false
+
+-- the line says that nothing follows
+abbrev pub is_end : LogLine → Bool
+is_end Pso = false
+is_end (First a v) = false
+is_end (Issued p x) = false
+is_end (Unknown p a) = false
+is_end End = true
 
 -- the greatest number of a processor
 abbrev pub greatest_processor : ℕ
 greatest_processor = 4095
 
--- The fault of a line after these: the memory model stands in the first line, first values stand before all lines of processors and in the order of
--- their addresses, and processors are 0 to 4,095.
+-- The fault of a line where it may stand after these: the memory model stands in the first line, first values stand before all lines of processors and
+-- in the order of their addresses, and processors are 0 to 4,095.
+abbrev pub fault_among : List LogLine → LogLine → Option Why
+fault_among before Pso = if is_empty before then None else Some BadModel
+fault_among before (First a v) = if list_any is_issued before then Some BadLine else if list_any (is_not_below a) before then Some InitOrder else None
+fault_among before (Issued p x) = if nat_lt greatest_processor p then Some ProcessorRange else None
+fault_among before (Unknown p a) = if nat_lt greatest_processor p then Some ProcessorRange else None
+fault_among before End = None
+
+-- the fault of a line after these: none stands after a line `end`
 abbrev pub fault_after : List LogLine → LogLine → Option Why
-fault_after before Pso = if is_empty before then None else Some BadModel
-fault_after before (First a v) = if list_any is_issued before then Some BadLine else if list_any (is_not_below a) before then Some InitOrder else None
-fault_after before (Issued p x) = if nat_lt greatest_processor p then Some ProcessorRange else None
-fault_after before (Unknown p a) = if nat_lt greatest_processor p then Some ProcessorRange else None
+fault_after before line = if list_any is_end before then Some BadLine else fault_among before line
 
 -- each of the lines says what stands in its place, and none has a fault
 pub record AreSaid (texts : List (List ℕ)) (lines : List LogLine) : Type 0 where
@@ -138,13 +158,26 @@ pub record SpellsLog (text : List ℕ) (log : NumberedLog) : Type 0 where
   pub said : AreSaid texts lines
   pub is : log ≡ log_of_lines lines
 
--- A part of a text is refused after these lines: it says nothing, it has a fault, or it is the last part and no line end follows it.
-abbrev pub IsPartRefused : List LogLine → List ℕ → List (List ℕ) → Why → Type 0
-IsPartRefused before part [] why = (part ≢ []) × (why ≡ BadLine)
-IsPartRefused before part (next ∷ after) why = (line_said part ≡ Err why) ⊎ (line : LogLine) × (line_said part ≡ Ok line) × (fault_after before line ≡ Some why)
+-- The text has a line `end`: it consists of lines, each with its line end, and they say a log that has one.
+pub record IsEnded (text : List ℕ) : Type 0 where
+  pub texts : List (List ℕ)
+  pub lines : List LogLine
+  pub whole : parts_of text ≡ texts ++ [] ∷ []
+  pub said : AreSaid texts lines
+  pub ended : list_any is_end lines ≡ true
 
--- The refusal of a text: its first line with a fault, counted from 1, and that fault.
-pub record IsLogRefusal (text : List ℕ) (line : ℕ) (why : Why) : Type 0 where
+-- where a text needs a line `end`, it has one
+abbrev pub IsEndedAsNeeded : Bool → List ℕ → Type 0
+IsEndedAsNeeded needs_end text = needs_end ≡ true → IsEnded text
+
+-- A part of a text is refused after these lines: it says nothing, it has a fault, or it is the last part and no line end follows it, or none of the lines
+-- is an `end` that the text needs.
+abbrev pub IsPartRefused : Bool → List LogLine → List ℕ → List (List ℕ) → Why → Type 0
+IsPartRefused needs_end before part [] why = ((part ≢ []) ⊎ ((needs_end ≡ true) × (list_any is_end before ≡ false))) × (why ≡ BadLine)
+IsPartRefused needs_end before part (next ∷ after) why = (line_said part ≡ Err why) ⊎ (line : LogLine) × (line_said part ≡ Ok line) × (fault_after before line ≡ Some why)
+
+-- The refusal of a text: its first line with a fault, counted from 1, and that fault. Where an `end` is needed and missing, the line after all others has it.
+pub record IsLogRefusal (needs_end : Bool) (text : List ℕ) (line : ℕ) (why : Why) : Type 0 where
   pub texts : List (List ℕ)
   pub lines : List LogLine
   pub part : List ℕ
@@ -152,4 +185,4 @@ pub record IsLogRefusal (text : List ℕ) (line : ℕ) (why : Why) : Type 0 wher
   pub whole : parts_of text ≡ texts ++ part ∷ after
   pub said : AreSaid texts lines
   pub is : line ≡ suc (length texts)
-  pub fault : IsPartRefused lines part after why
+  pub fault : IsPartRefused needs_end lines part after why

@@ -1,12 +1,12 @@
 //! What the definitions of the texts of logs say of each other, proved of all texts.
 
-ghost use Rattle.std.specs.Prelude.{◌≡◌, ℕ, List};
+ghost use Rattle.std.specs.Prelude.{◌≡◌, ℕ, Bool, List};
 ghost use Rattle.log_text.specs.LogValues.{NumberedLog};
 ghost use Rattle.tso_text.specs.declared.faults.Why.{Why};
-ghost use Rattle.log_text.specs.LogTexts.{SpellsLog, IsLogRefusal};
+ghost use Rattle.log_text.specs.LogTexts.{IsEndedAsNeeded, SpellsLog, IsLogRefusal};
 
-/// A text spells one log at most, and one that is refused spells none.
+/// A text spells one log at most, and one that is refused spells none, or lacks the line `end` that it needs.
 pub fn texts()
     ensures one_log { (text : List ℕ) (t u : NumberedLog) → SpellsLog text t → SpellsLog text u → t ≡ u }
-    ensures never_both { (text : List ℕ) (t : NumberedLog) (line : ℕ) (why : Why) → SpellsLog text t → IsLogRefusal text line why → ⊥ }
+    ensures never_both { (needs_end : Bool) (text : List ℕ) (t : NumberedLog) (line : ℕ) (why : Why) → SpellsLog text t → IsEndedAsNeeded needs_end text → IsLogRefusal needs_end text line why → ⊥ }
 {}

@@ -19,6 +19,8 @@ pub(crate) enum LogLine {
     Issued { p: u64, x: LogOperation },
     /// A processor did something else to the location at an address.
     Unknown { p: u64, a: u64 },
+    /// Nothing follows.
+    End,
 }
 
 /// What a line says, without its line end.
@@ -31,6 +33,9 @@ pub(crate) fn line_said(line: &[u8]) -> Result<LogLine, Why>
 {
     if line == b"model pso".as_slice() {
         return Ok(LogLine::Pso);
+    }
+    if line == b"end".as_slice() {
+        return Ok(LogLine::End);
     }
     let (word, tokens) = next_token(line);
     if word == b"init".as_slice() {

@@ -1,6 +1,6 @@
-ghost use Rattle.std.specs.Prelude.{◌≡◌, ◌≢◌, IfOk, IfErr, MatchResult};
+ghost use Rattle.std.specs.Prelude.{◌≡◌, ◌≢◌, IfOk, IfErr, MatchResult, true};
 ghost use Rattle.tso_text.specs.declared.faults.Why.{Why};
-ghost use Rattle.log_text.specs.LogTexts.{SpellsLog, IsLogRefusal};
+ghost use Rattle.log_text.specs.LogTexts.{IsEndedAsNeeded, SpellsLog, IsLogRefusal};
 ghost use Rattle.log_text.specs.LogValues.{NumberedLog, log_value};
 
 use crate::logs::Log;
@@ -16,12 +16,14 @@ use tso_text::{TextFault, Why, fault_of};
 /// processor, 0 to 4,095, A an address, R what was read and V what was stored. A line `P un A` says that something else was done
 /// to the location, as an access of another size: the log has no operation at that address, whether before or after the line.
 /// All are decimal numbers of 64 bits, without leading zeros, and single spaces stand between them. Without a line `model pso`
-/// the memory model is TSO. An empty text is a log without operations.
+/// the memory model is TSO. A last line `end` may say that the text is whole. An empty text is a log without operations.
+///
+/// Where the end is needed, a text without the line `end` is refused, as one that was cut off.
 ///
 /// The text is refused for its first line with a fault, counted from 1:
 ///
 /// - BadLine: a line of another form, as with a processor that is no number of 64 bits; a line without a line end; an `init`
-///   after an operation.
+///   after an operation; a line after `end`; the end of the text, as the line after all others, where `end` is needed and missing.
 /// - BadNumber: a token after `init`, `ld`, `st`, `sw` or `un` is no number of 64 bits.
 /// - BadModel: a line `model pso` that isn't the first, or another line whose first token is `model`.
 /// - InitOrder: an `init` of an address that isn't above those before.
@@ -29,10 +31,11 @@ use tso_text::{TextFault, Why, fault_of};
 ///
 /// Of several faults of a line, that of its form counts before that of a number, and both before the others. OutOfMemory,
 /// where an allocation was refused, has line 0.
-pub fn read_log(alloc: Global, text: &[u8]) -> Result<Log, TextFault>
+pub fn read_log(alloc: Global, text: &[u8], needs_end: bool) -> Result<Log, TextFault>
     ensures found { IfOk result (λ log. SpellsLog text.now (log_value log)) }
-    ensures only { (t : NumberedLog) → SpellsLog text.now t → MatchResult result (λ log. log_value log ≡ t) (λ fault. fault.why ≡ Why.OutOfMemory) }
-    ensures refused { IfErr result (λ fault. fault.why ≢ Why.OutOfMemory → IsLogRefusal text.now fault.line fault.why) }
+    ensures ended { IfOk result (λ _. IsEndedAsNeeded needs_end text.now) }
+    ensures only { (t : NumberedLog) → SpellsLog text.now t → IsEndedAsNeeded needs_end text.now → MatchResult result (λ log. log_value log ≡ t) (λ fault. fault.why ≡ Why.OutOfMemory) }
+    ensures refused { IfErr result (λ fault. fault.why ≢ Why.OutOfMemory → IsLogRefusal needs_end text.now fault.line fault.why) }
     ensures memory { IfErr result (λ fault. fault.why ≡ Why.OutOfMemory → fault.line ≡ 0) }
 {
     let mut reading = Reading::new(alloc);
@@ -41,6 +44,9 @@ pub fn read_log(alloc: Global, text: &[u8]) -> Result<Log, TextFault>
     'lines: loop {
         let Some((prefix, after)) = next_line(rest) else {
             if !rest.is_empty() {
+                return Err(fault_of(line, Why::BadLine));
+            }
+            if reading.lacks_end(needs_end) {
                 return Err(fault_of(line, Why::BadLine));
             }
             return match reading.log(alloc) {

@@ -1,8 +1,8 @@
 //! A log while its text is read: it holds what the lines so far say.
-ghost use Rattle.std.specs.Prelude.{◌≡◌, ◌++◌, ◌∷◌, [], ◌+◌, ◌<◌, ℕ, List, length, get_or, set, OnOk, IfOk, IfErr, vec_len, max};
+ghost use Rattle.std.specs.Prelude.{◌≡◌, ◌&&◌, ◌++◌, ◌∷◌, [], ◌+◌, ◌<◌, ℕ, List, length, get_or, set, OnOk, IfOk, IfErr, vec_len, max, not};
 ghost use Rattle.line_text.specs.Lines.{is_empty};
 ghost use Rattle.tso_ops.specs.Values.{rows};
-ghost use Rattle.log_text.specs.Internal.Readings.{HoldsLines, IsAccepted, IsRefused, IsTextAccepted, IsTextRefused, IsLastGreatest, has_not_below};
+ghost use Rattle.log_text.specs.Internal.Readings.{HoldsLines, IsAccepted, IsAcceptedAmong, IsRefused, IsRefusedAmong, IsTextAccepted, IsTextRefused, IsLastGreatest, has_not_below};
 ghost use Rattle.log_text.specs.declared.lines.LogLine.{LogLine};
 ghost use Rattle.log_text.specs.LogTexts.{log_of_lines};
 ghost use Rattle.log_text.specs.LogValues.{log_value};
@@ -25,6 +25,8 @@ pub(crate) struct Reading {
     pub(crate) log: Log,
     /// The addresses of lines `un`.
     pub(crate) unknown: Vec<u64>,
+    /// Whether a line `end` came.
+    pub(crate) is_ended: bool,
 }
 
 impl Reading {
@@ -40,6 +42,7 @@ impl Reading {
                 left_out: 0,
             },
             unknown: Vec::new(alloc),
+            is_ended: false,
         }
     }
 
@@ -64,18 +67,40 @@ impl Reading {
         ensures accepted { OnOk result (IsAccepted self.old number line self.new) }
         ensures refused { IfErr result (IsRefused self.old line) }
     {
+        if self.is_ended {
+            return Err(Why::BadLine);
+        }
+        self.accept_among(alloc, number, line)
+    }
+
+    /// Accepts what the next line says, where no line `end` came, or refuses it for its fault; or OutOfMemory.
+    fn accept_among(&mut self, alloc: Global, number: usize, line: LogLine) -> Result<(), Why>
+        requires { (before : List LogLine) × HoldsLines self.old before }
+        ensures accepted { OnOk result (IsAcceptedAmong self.old number line self.new) }
+        ensures refused { IfErr result (IsRefusedAmong self.old line) }
+    {
         match line {
             LogLine::Pso => self.accept_model(number),
             LogLine::First { a, v } => self.accept_entry(number, a, v),
             LogLine::Issued { p, x } => self.accept_operation(alloc, number, p, x),
             LogLine::Unknown { p, a } => self.accept_unknown(alloc, number, p, a),
+            LogLine::End => self.accept_end(number),
         }
+    }
+
+    /// Accepts that nothing follows.
+    fn accept_end(&mut self, number: usize) -> Result<(), Why>
+        ensures accepted { OnOk result (IsAcceptedAmong self.old number LogLine.End self.new) }
+        ensures refused { IfErr result (IsRefusedAmong self.old LogLine.End) }
+    {
+        self.is_ended = true;
+        Ok(())
     }
 
     /// Accepts that the memory model is PSO, where no line came before.
     fn accept_model(&mut self, number: usize) -> Result<(), Why>
-        ensures accepted { OnOk result (IsAccepted self.old number LogLine.Pso self.new) }
-        ensures refused { IfErr result (IsRefused self.old LogLine.Pso) }
+        ensures accepted { OnOk result (IsAcceptedAmong self.old number LogLine.Pso self.new) }
+        ensures refused { IfErr result (IsRefusedAmong self.old LogLine.Pso) }
     {
         if !self.is_untouched() {
             return Err(Why::BadModel);
@@ -88,7 +113,8 @@ impl Reading {
     fn is_untouched(&self) -> bool
         ensures { (before : List LogLine) → HoldsLines self.now before → result ≡ is_empty before }
     {
-        matches!(self.log.order, Order::Tso)
+        !self.is_ended
+            && matches!(self.log.order, Order::Tso)
             && self.log.first.is_empty()
             && self.log.lists.is_empty()
     }
@@ -96,8 +122,8 @@ impl Reading {
     /// Accepts a first value, where no line of a processor came before and its address is above those before.
     fn accept_entry(&mut self, number: usize, a: u64, v: u64) -> Result<(), Why>
         requires { (before : List LogLine) × HoldsLines self.old before }
-        ensures accepted { OnOk result (IsAccepted self.old number (LogLine.First a v) self.new) }
-        ensures refused { IfErr result (IsRefused self.old (LogLine.First a v)) }
+        ensures accepted { OnOk result (IsAcceptedAmong self.old number (LogLine.First a v) self.new) }
+        ensures refused { IfErr result (IsRefusedAmong self.old (LogLine.First a v)) }
     {
         if !self.log.lists.is_empty() {
             return Err(Why::BadLine);
@@ -118,8 +144,8 @@ impl Reading {
         x: LogOperation,
     ) -> Result<(), Why>
         requires { (before : List LogLine) × HoldsLines self.old before }
-        ensures accepted { OnOk result (IsAccepted self.old number (LogLine.Issued p x) self.new) }
-        ensures refused { IfErr result (IsRefused self.old (LogLine.Issued p x)) }
+        ensures accepted { OnOk result (IsAcceptedAmong self.old number (LogLine.Issued p x) self.new) }
+        ensures refused { IfErr result (IsRefusedAmong self.old (LogLine.Issued p x)) }
     {
         if p > MAX_PROCESSOR {
             return Err(Why::ProcessorRange);
@@ -136,8 +162,8 @@ impl Reading {
     /// Accepts that a processor, which is at most 4,095, did something unknown to the location at an address.
     fn accept_unknown(&mut self, alloc: Global, number: usize, p: u64, a: u64) -> Result<(), Why>
         requires { (before : List LogLine) × HoldsLines self.old before }
-        ensures accepted { OnOk result (IsAccepted self.old number (LogLine.Unknown p a) self.new) }
-        ensures refused { IfErr result (IsRefused self.old (LogLine.Unknown p a)) }
+        ensures accepted { OnOk result (IsAcceptedAmong self.old number (LogLine.Unknown p a) self.new) }
+        ensures refused { IfErr result (IsRefusedAmong self.old (LogLine.Unknown p a)) }
     {
         if p > MAX_PROCESSOR {
             return Err(Why::ProcessorRange);
@@ -147,11 +173,18 @@ impl Reading {
         Ok(())
     }
 
+    /// Whether the line `end` is needed and didn't come.
+    pub(crate) fn lacks_end(&self, needs_end: bool) -> bool
+        ensures { result ≡ (needs_end && not self.now.is_ended) }
+    {
+        needs_end && !self.is_ended
+    }
+
     /// The log that the lines say: without the operations at addresses of lines `un`. Or OutOfMemory.
     pub(crate) fn log(self, alloc: Global) -> Result<Log, OutOfMemory>
         ensures { IfOk result (λ log. (lines : List LogLine) → HoldsLines self lines → log_value log ≡ log_of_lines lines) }
     {
-        let Reading { log, unknown } = self;
+        let Reading { log, unknown, .. } = self;
         leave_out(alloc, log, &unknown)
     }
 }

@@ -15,7 +15,7 @@ form_of asked.Explained = Explained
 form_of asked.Traces = Traces
 
 abbrev pub options_of : AskedOptions → LogOptions
-options_of options = record { most = options.most; effort = options.effort; max_unknown = options.max_unknown; form = form_of options.form }
+options_of options = record { most = options.most; effort = options.effort; max_unknown = options.max_unknown; needs_end = options.needs_end; form = form_of options.form }
 
 abbrev pub status_of_log : LogVerdict → ℕ
 status_of_log NoViolation = 0

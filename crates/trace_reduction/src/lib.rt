@@ -4,6 +4,7 @@
 #![tactic(auto)]
 
 pub use reports::reduce_trace;
+pub use trials::is_violation;
 
 mod candidates;
 mod judging;

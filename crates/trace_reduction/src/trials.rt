@@ -1,6 +1,10 @@
 //! Whether a trace is a violation, and how much work it was to find out.
-ghost use Rattle.std.specs.Prelude.{◌≡◌, ℕ, false};
+ghost use Rattle.std.specs.Prelude.{◌≡◌, IfOk, ℕ, false, true};
+ghost use Rattle.order_graph.specs.Digraphs.{IsEdge};
+ghost use Rattle.order_paths.specs.Paths.{HasCycle};
+ghost use Rattle.tso_model.specs.Rules.{HasDerivedCycle};
 ghost use Rattle.tso_ops.specs.Events.{IsUnwritten};
+ghost use Rattle.trace_reports.specs.Violations.{IsViolation};
 
 use chain_rules::{RoundForm, count_rounds};
 use log_search::Effort;
@@ -26,12 +30,16 @@ impl PoolGate for RowCounter {
 
 /// Whether a trace is a violation, by rounds in the caller's thread; the effort counts them. OutOfMemory where an allocation was
 /// refused.
-pub(crate) fn is_violation<H: Threads + Wait>(
+///
+/// Where the system refuses what rounds need beside memory, the answer is that it is none.
+pub fn is_violation<H: Threads + Wait>(
     rt: &H,
     alloc: Global,
     trace: &Trace,
     effort: &mut Effort,
-) -> Result<bool, OutOfMemory> {
+) -> Result<bool, OutOfMemory>
+    ensures { IfOk result (λ found. found ≡ true → IsViolation trace.now) }
+{
     if has_unwritten(trace) {
         return Ok(true);
     }
@@ -44,6 +52,7 @@ pub(crate) fn is_violation<H: Threads + Wait>(
 /// Whether rounds by chains end with a cycle; the effort counts them. OutOfMemory where an allocation was refused.
 fn closes_chains(alloc: Global, trace: &Trace, effort: &mut Effort) -> Result<bool, OutOfMemory>
     requires { (l : ℕ) → IsUnwritten trace.now l → ⊥ }
+    ensures { IfOk result (λ found. found ≡ true → HasDerivedCycle trace.now) }
 {
     let count = count_rounds(alloc, trace)?;
     effort.count(trace.events(), count.rounds as usize, count.rows as usize);
@@ -58,6 +67,7 @@ fn closes_bit_rows<H: Threads + Wait>(
     effort: &mut Effort,
 ) -> Result<bool, OutOfMemory>
     requires { (l : ℕ) → IsUnwritten trace.now l → ⊥ }
+    ensures { IfOk result (λ found. found ≡ true → HasDerivedCycle trace.now) }
 {
     let counter = RowCounter {
         rows: AtomicUsize::new(0),
@@ -76,7 +86,8 @@ fn closes_bit_rows<H: Threads + Wait>(
 
 /// Whether a trace has a load whose value nothing wrote.
 fn has_unwritten(trace: &Trace) -> bool
-    ensures { result ≡ false → (l : ℕ) → IsUnwritten trace.now l → ⊥ }
+    ensures some { result ≡ true → (l : ℕ) × IsUnwritten trace.now l }
+    ensures none { result ≡ false → (l : ℕ) → IsUnwritten trace.now l → ⊥ }
 {
     for n in 0..trace.events() {
         if trace.is_unwritten(n + 1) {
@@ -87,7 +98,9 @@ fn has_unwritten(trace: &Trace) -> bool
 }
 
 /// Whether a number of the graph reaches itself.
-fn has_cycle(graph: &Graph) -> bool {
+fn has_cycle(graph: &Graph) -> bool
+    ensures { result ≡ true → HasCycle (IsEdge graph.now) }
+{
     for x in 0..graph.nodes() {
         if graph.reaches(x, x) {
             return true;

@@ -76,6 +76,7 @@ pub fn report_a_log<H: Threads + Wait + AllocGlobal, R: Read, W: Write, E: Write
         most: 10,
         effort: 100,
         max_unknown: 100,
+        needs_end: false,
         form: LogForm::Explained,
     };
     let verdict = report_log(rt, options, &NoMeter, reader, writer, errors)?;

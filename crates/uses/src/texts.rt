@@ -35,6 +35,6 @@ pub fn evidence_of_a_text(alloc: Global, text: &[u8]) -> Result<Evidence, tso_ev
 
 /// `log_text`: the log that a text spells.
 pub fn log_of_a_text(alloc: Global, text: &[u8]) -> Result<Log, TextFault> {
-    let log = read_log(alloc, text)?;
+    let log = read_log(alloc, text, false)?;
     Ok(log)
 }

@@ -33,10 +33,10 @@ which test servers read: a test case for each trace, which fails where the trace
 is a violation and has an error where the text is refused.
 
 With --decide the lines say what `tsobench decide` finds: CONSISTENT, which
---quiet leaves out, VIOLATION, UNDECIDED 100000 after so many cases, or REFUSED,
+--quiet leaves out, VIOLATION, UNDECIDED 100000 after so many steps, or REFUSED,
 and the last one is as
 traces 4 consistent 1 violations 1 undecided 1 refused 1. An undecided trace is
-{\"trace\":4,\"verdict\":\"undecided\",\"cases\":100000} in JSON, and a test case
+{\"trace\":4,\"verdict\":\"undecided\",\"steps\":100000} in JSON, and a test case
 that was skipped in JUnit's XML.
 
 With --require N the status isn't 0 if fewer than N traces of all files were

@@ -14,7 +14,7 @@ and then one of these:
   CONSISTENT   the trace has such an order: the next line has the numbers of
                the events in it, as order 4 2 3 1
   VIOLATION    the trace has none: the lines after this one show it
-  UNDECIDED N  neither was found, after N cases
+  UNDECIDED N  neither was found, after N steps
 
 After VIOLATION stands a line `unwritten N` or a certificate, as in the report
 of `tsobench judge`, or a refutation by cases. It has lines as a certificate has

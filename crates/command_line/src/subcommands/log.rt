@@ -1,5 +1,5 @@
-//! `log [--most K] [--effort N] [--max-unknown PERCENT] [--trace|--explain] [--progress] [--verbose] [FILE]`: finds violations of a
-//! log.
+//! `log [--most K] [--effort N] [--max-unknown PERCENT] [--ended] [--trace|--explain] [--progress] [--verbose] [FILE]`: finds
+//! violations of a log.
 
 use crate::options::{MAX_LOG_EFFORT, MAX_LOG_VIOLATIONS, MAX_PERCENT};
 use crate::parameters::{Accepted, Description, Parameter};
@@ -23,7 +23,8 @@ Lines of different processors may stand in any order. Addresses and values are
 numbers of 64 bits, and values may repeat. The first line may be `model pso`,
 for Partial Store Order; without it STBAR says nothing. Lines `init A V`, before
 all operations and in ascending order of A, say what memory has at first: 0 at
-all other addresses.
+all other addresses. A last line `end` says that the log is whole; with --ended
+a log without it is refused, as one that was cut off.
 
 The log must have every store and swap of the run: what it leaves out may be
 what a load read. Then a violation that is shown is one of the run; that none
@@ -79,6 +80,10 @@ pub(crate) static LOG: Description = Description {
             accepted: Accepted::Number(0, MAX_PERCENT as u64),
             default: Some("100"),
             help: "How many of a hundred loads may have an unknown source, 0 to 100",
+        },
+        Parameter::Flag {
+            name: "ended",
+            help: "Refuses a log that does not end with a line `end`",
         },
         Parameter::Flag {
             name: "trace",

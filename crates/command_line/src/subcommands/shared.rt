@@ -34,7 +34,7 @@ pub(crate) const EFFORT: Parameter = Parameter::Option {
     value_name: "N",
     accepted: Accepted::Number(0, u64::MAX),
     default: Some("100000"),
-    help: "How many cases a decision looks at, at most",
+    help: "How many steps the search for a decision does, at most",
 };
 
 /// `[FILE]`, with a trace.

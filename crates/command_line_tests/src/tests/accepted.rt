@@ -90,7 +90,7 @@ static TRACES: [(&[&str], &str); 37] = [
     ),
     (
         &["log"],
-        "Log(LogRequest { file: None, options: LogOptions { most: 10, effort: 100, max_unknown: 100, form: Lines } })",
+        "Log(LogRequest { file: None, options: LogOptions { most: 10, effort: 100, max_unknown: 100, needs_end: false, form: Lines } })",
     ),
     (
         &[
@@ -98,17 +98,16 @@ static TRACES: [(&[&str], &str); 37] = [
             "l",
             "--most",
             "1",
-            "--effort",
-            "0",
-            "--max-unknown",
-            "0",
+            "--effort=0",
+            "--max-unknown=0",
+            "--ended",
             "--explain",
         ],
-        "Log(LogRequest { file: Some(\"l\"), options: LogOptions { most: 1, effort: 0, max_unknown: 0, form: Explained } })",
+        "Log(LogRequest { file: Some(\"l\"), options: LogOptions { most: 1, effort: 0, max_unknown: 0, needs_end: true, form: Explained } })",
     ),
     (
         &["log", "--trace", "--effort=1000000", "--most=1000000", "l"],
-        "Log(LogRequest { file: Some(\"l\"), options: LogOptions { most: 1000000, effort: 1000000, max_unknown: 100, form: Traces } })",
+        "Log(LogRequest { file: Some(\"l\"), options: LogOptions { most: 1000000, effort: 1000000, max_unknown: 100, needs_end: false, form: Traces } })",
     ),
     (
         &["decide"],

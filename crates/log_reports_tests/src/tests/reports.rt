@@ -7,6 +7,7 @@ const FIRST: LogOptions = LogOptions {
     most: 1,
     effort: 100,
     max_unknown: 100,
+    needs_end: false,
     form: LogForm::Lines,
 };
 
@@ -14,6 +15,7 @@ const UNSEARCHED: LogOptions = LogOptions {
     most: 10,
     effort: 0,
     max_unknown: 100,
+    needs_end: false,
     form: LogForm::Lines,
 };
 
@@ -21,6 +23,7 @@ const EXPLAINED: LogOptions = LogOptions {
     most: 10,
     effort: 100,
     max_unknown: 100,
+    needs_end: false,
     form: LogForm::Explained,
 };
 
@@ -28,6 +31,7 @@ const HALF_UNKNOWN: LogOptions = LogOptions {
     most: 10,
     effort: 100,
     max_unknown: 50,
+    needs_end: false,
     form: LogForm::Lines,
 };
 
@@ -35,6 +39,7 @@ const LESS_UNKNOWN: LogOptions = LogOptions {
     most: 10,
     effort: 100,
     max_unknown: 49,
+    needs_end: false,
     form: LogForm::Lines,
 };
 

@@ -1,8 +1,9 @@
 -- The sources of loads that the values of a log tell.
-use Rattle.std.specs.Prelude.{◌≡◌, ◌≢◌, ◌+◌, ℕ, zero, suc, IsTrue, List, Option, None, Some, slice_get, get_or}
+use Rattle.std.specs.Prelude.{◌≡◌, ◌≢◌, ◌+◌, ℕ, zero, suc, IsTrue, List, [], Option, None, Some, slice_get, get_or}
 use Rattle.tso_ops.specs.declared.events.Source.{Source}
 use Rattle.tso_ops.specs.declared.events.Source.TheVariants.{Init, Store}
 use Rattle.tso_ops.specs.Settings.{first_value}
+use Rattle.tso_ops.specs.Events.{IsUnwritten}
 use Rattle.log_selections.specs.Sources.{IsAmbiguousCount, IsOnlySource}
 use Rattle.log_text.specs.declared.logs.Log.{Log}
 use Rattle.log_text.specs.LogValues.{log_operations, log_value}
@@ -50,6 +51,15 @@ abbrev pub IsAmbiguousLoad : List (ℕ × ℕ) → List Access → ℕ → Type 
 IsAmbiguousLoad first accesses n =
     (k : ℕ) × (n ≡ suc k) × (x : Access) × (slice_get accesses k ≡ Some x) × IsTrue x.load × HasTwoWriters first accesses (x.a, x.value)
 
+-- Number n is a load, the value of which nothing wrote.
+abbrev pub IsUnwrittenNumber : List (ℕ × ℕ) → List Access → ℕ → Type 0
+IsUnwrittenNumber first accesses n =
+    (k : ℕ) × (n ≡ suc k) × (x : Access) × (slice_get accesses k ≡ Some x) × IsTrue x.load × IsFound first accesses (x.a, x.value) Unwritten
+
+-- where none is listed, none is so
+abbrev pub AreAllListed : List (ℕ × ℕ) → List Access → List ℕ → Type 0
+AreAllListed first accesses unwritten = unwritten ≡ [] → (n : ℕ) → IsUnwrittenNumber first accesses n → ⊥
+
 -- how many loads are ambiguous after one more of which this was found
 abbrev pub with_found : ℕ → LoadSource → ℕ
 with_found count (Known s) = count
@@ -64,11 +74,13 @@ source_in numbers n = get_or numbers n None
 abbrev pub AreSources : List (ℕ × ℕ) → List Access → List (Option ℕ) → Type 0
 AreSources first accesses numbers = (n s : ℕ) → source_in numbers n ≡ Some s → IsKnownSource first accesses n s
 
--- What `KnownLog` keeps: the numbers of the operations, only sources, and how many loads are ambiguous.
-pub record IsKnownLog (log : Log) (numbers : List (List ℕ)) (sources : List (Option ℕ)) (ambiguous : ℕ) : Type 0 where
+-- What `KnownLog` keeps: the numbers of the operations, only sources, how many loads are ambiguous, and a list that is empty only where no load is
+-- unwritten.
+pub record IsKnownLog (log : Log) (numbers : List (List ℕ)) (sources : List (Option ℕ)) (ambiguous : ℕ) (unwritten : List ℕ) : Type 0 where
   pub numbered : numbers ≡ numbers_of_lists 1 (rows log.lists.items)
   pub known : (l s : ℕ) → source_in sources l ≡ Some s → IsOnlySource (log_operations (log_value log)) l s
   pub ambiguous_are : IsAmbiguousCount (log_value log) ambiguous
+  pub unwritten_are : unwritten ≡ [] → (l : ℕ) → IsUnwritten (log_operations (log_value log)) l → ⊥
 
 -- the source of number s
 abbrev pub source_at : ℕ → Source

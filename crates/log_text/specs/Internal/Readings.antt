@@ -8,7 +8,7 @@ use Rattle.tso_text.specs.declared.faults.Why.TheVariants.{OutOfMemory}
 use Rattle.log_text.specs.declared.lines.LogLine.{LogLine}
 use Rattle.log_text.specs.declared.readings.Reading.{Reading}
 use Rattle.log_text.specs.LogLines.{line_said}
-use Rattle.log_text.specs.LogTexts.{order_of, entries_in, unknown_in, issued_from, is_issued, processors_in, fault_after}
+use Rattle.log_text.specs.LogTexts.{order_of, entries_in, unknown_in, issued_from, is_end, is_issued, processors_in, fault_after, fault_among}
 
 -- the address of an entry isn't below this one
 abbrev pub has_not_below : ℕ → List (ℕ × ℕ) → Bool
@@ -32,11 +32,23 @@ pub record HoldsLines (reading : Reading) (lines : List LogLine) : Type 0 where
   pub count : length (rows reading.log.lists.items) ≡ processors_in lines
   pub lists : (p : ℕ) → get_or (rows reading.log.lists.items) p [] ≡ issued_from 1 lines p
   pub unknown : reading.unknown.items ≡ flat_map unknown_in lines
+  pub ended : reading.is_ended ≡ list_any is_end lines
 
 -- the next line has no fault, and the new reading holds it too
 pub record IsNext (before : List LogLine) (line : LogLine) (new : Reading) : Type 0 where
   pub clean : fault_after before line ≡ None
   pub holds : HoldsLines new (before ++ line ∷ [])
+
+-- where none of the lines so far is `end`, the next one has no fault, and the new reading holds it too
+pub record IsNextAmong (before : List LogLine) (line : LogLine) (new : Reading) : Type 0 where
+  pub clean : fault_among before line ≡ None
+  pub holds : HoldsLines new (before ++ line ∷ [])
+
+abbrev pub IsAcceptedAmong : Reading → ℕ → LogLine → Reading → Type 0
+IsAcceptedAmong old number line new = (before : List LogLine) → HoldsLines old before → number ≡ suc (length before) → IsNextAmong before line new
+
+abbrev pub IsRefusedAmong : Reading → LogLine → Why → Type 0
+IsRefusedAmong old line why = (before : List LogLine) → HoldsLines old before → (why ≡ OutOfMemory) ⊎ (fault_among before line ≡ Some why)
 
 -- what the line of this number says is accepted after the lines that the old reading holds
 abbrev pub IsAccepted : Reading → ℕ → LogLine → Reading → Type 0

@@ -59,6 +59,7 @@ fn options_of(options: AskedOptions) -> LogOptions
         most: options.most,
         effort: options.effort,
         max_unknown: options.max_unknown,
+        needs_end: options.needs_end,
         form: form_of(options.form),
     }
 }

@@ -86,6 +86,7 @@ fn logged_into<H: Threads + Wait + Sync + AllocGlobal>(
             most: 1,
             effort: 100,
             max_unknown: 100,
+            needs_end: false,
             form: LogForm::Lines,
         },
     });

@@ -7,7 +7,7 @@ pub returns-in-Ok-clause-report : goal.returns-in-Ok-clause-report
 returns-in-Ok-clause-report g c =
     let small = c.in_ok-text.text.small in
     let all = all_read (g.R.Read.remaining c.args.reader.now) c.in_ok-text.text.items c.in_ok-text.ensures.prefix (omega (arith, small)) in
-    log_said c.args.options (g.R.Read.remaining c.args.reader.now) _ _ all c.deref.ensures.value (log_value c.in-Ok.log) c.report_on.result c.in-Ok.ensures.found c.report_on.ensures.report
+    log_said c.args.options (g.R.Read.remaining c.args.reader.now) _ _ all c.deref.ensures.value (log_value c.in-Ok.log) c.report_on.result c.in-Ok.ensures.found c.in-Ok.ensures.ended c.report_on.ensures.report
 
 pub returns-in-Ok-clause-taken : goal.returns-in-Ok-clause-taken
 returns-in-Ok-clause-taken g c =

@@ -18,4 +18,4 @@ returns-clause-accepted c before holds numbered =
     let lists = reading.log.lists in
     let none : rows lists.items ≡ [] = no_rows lists.items _ c.is_empty.result lists.ok.0 c.is_empty.ensures c.if-not-is_empty.false in
     let above : has_not_below c.args.a reading.log.first.items ≡ false = cc in
-    entry_next reading _ before c.args.a c.args.v holds none above refl c.in_ok-push.ensures.items refl refl
+    entry_next reading _ before c.args.a c.args.v holds none above refl c.in_ok-push.ensures.items refl refl refl
