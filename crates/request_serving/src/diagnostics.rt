@@ -1,5 +1,7 @@
-//! What is told on standard error beside what a request prints: how much is done, and why a file can't be read.
+//! What is told on standard error beside what a request prints: how much is done, why a file can't be read, and what a refused
+//! text looks like.
 
+use crate::hints::Likeness;
 use command_line::Notes;
 use progress_meters::Meter;
 use std::cell::Cell;
@@ -11,7 +13,8 @@ use std::time::{Duration, Instant};
 /// How many seconds pass until progress is told again.
 const INTERVAL: u64 = 1;
 
-/// What is told on the standard error of a runtime. Nothing is told that isn't asked for.
+/// What is told on the standard error of a runtime: what is asked for, and on a terminal, where a person reads it, also why a
+/// file can't be read and what a refused text looks like.
 #[derive(Drop)]
 pub struct Diagnostics<'h, H> {
     rt: &'h H,
@@ -27,6 +30,8 @@ pub struct Diagnostics<'h, H> {
     has_line: Cell<bool>,
     /// The last failure of a file, as it is told.
     failure: Cell<Option<String>>,
+    /// What the first text that was read looks like, or the last that is empty.
+    likeness: Cell<Option<Likeness>>,
 }
 
 impl<'h, H: Eprint + Clock + AllocGlobal> Diagnostics<'h, H> {
@@ -44,6 +49,7 @@ impl<'h, H: Eprint + Clock + AllocGlobal> Diagnostics<'h, H> {
             told_at: Cell::new(None),
             has_line: Cell::new(false),
             failure: Cell::new(None),
+            likeness: Cell::new(None),
         }
     }
 
@@ -107,6 +113,7 @@ impl<'h, H: Eprint + Clock + AllocGlobal> Diagnostics<'h, H> {
             reader,
             name: String::new(self.rt.alloc()),
             is_input: true,
+            is_begun: false,
             diagnostics: self,
         }
     }
@@ -117,14 +124,20 @@ impl<'h, H: Eprint + Clock + AllocGlobal> Diagnostics<'h, H> {
             reader,
             name: self.told_name(name),
             is_input: false,
+            is_begun: false,
             diagnostics: self,
         }
+    }
+
+    /// Whether it is told why a file can't be read, and what a refused text looks like.
+    fn tells_reasons(&self) -> bool {
+        self.is_terminal || self.notes.get().verbose
     }
 
     /// The name of a file, where its failures are told. Without memory for it they are told without a name.
     fn told_name(&self, name: &str) -> String {
         let alloc = self.rt.alloc();
-        if self.notes.get().verbose {
+        if self.tells_reasons() {
             String::from_str(alloc, name).unwrap_or(String::new(alloc))
         } else {
             String::new(alloc)
@@ -133,9 +146,25 @@ impl<'h, H: Eprint + Clock + AllocGlobal> Diagnostics<'h, H> {
 
     /// Notes why a file can't be opened or read, where that is to be told.
     pub(crate) fn note_failure(&self, name: &str, error: &io::Error) {
-        if self.notes.get().verbose {
+        if self.tells_reasons() {
             let text = format!(in self.rt.alloc(); "{name}: {error}\n");
             self.failure.set(text.ok());
+        }
+    }
+
+    /// Notes what a text looks like that begins with these bytes, where it is the first or empty, and that may be told.
+    fn note_start(&self, bytes: &[u8]) {
+        if self.tells_reasons() && (bytes.is_empty() || self.likeness.get().is_none()) {
+            self.likeness.set(Some(Likeness::of(bytes)));
+        }
+    }
+
+    /// Tells what a text looks like that this subcommand refused, where it reads no such texts.
+    pub(crate) fn tell_hint(&self, subcommand: &str) {
+        if let Some(likeness) = self.likeness.get() {
+            if let Some(hint) = likeness.hint(subcommand) {
+                let _ = eprint!(self.rt; "{hint}\n");
+            }
         }
     }
 
@@ -164,6 +193,8 @@ pub struct WatchedReader<'h, R, H> {
     name: String,
     /// Whether it is standard input, which has no name.
     is_input: bool,
+    /// Whether something was read.
+    is_begun: bool,
     diagnostics: &'h Diagnostics<'h, H>,
 }
 
@@ -183,7 +214,13 @@ impl<R: Read, H: Eprint + Clock + AllocGlobal> Read for WatchedReader<'_, R, H> 
 
     fn read(&mut self, buf: &mut [u8]) -> io::Result<usize> {
         match self.reader.read(buf) {
-            Ok(count) => Ok(count),
+            Ok(count) => {
+                if !self.is_begun {
+                    self.is_begun = true;
+                    self.diagnostics.note_start(buf.get(..count).unwrap_or(&[]));
+                }
+                Ok(count)
+            }
             Err(error) => {
                 if error.kind() != io::ErrorKind::Interrupted {
                     self.diagnostics.note_failure(self.told_name(), &error);

@@ -11,7 +11,7 @@ ghost use Rattle.request_serving.specs.LawfulRequests.{RunsLawfully, runs_on_law
 ghost use Rattle.request_serving.specs.OpenedFiles.{HasRefusedFirstText, OpensFirst, TakesInput, files_named, reads_input};
 
 use crate::diagnostics::Diagnostics;
-use crate::endings::{FAULT, end_by};
+use crate::endings::{FAULT, REFUSED, end_by};
 use crate::files::{Surroundings, SystemFiles};
 use crate::serving::{refuse, serve};
 use command_line::read_arguments;
@@ -38,8 +38,9 @@ use trace_judging::Fault;
 /// before one is read; but those of `batch` each when its turn comes. At most 1,048,577 bytes of a trace, of a program and of a
 /// schedule are read, 67,108,865 of a certificate and of evidence; of many traces and of a log all are.
 ///
-/// With `--verbose` the diagnostics tell after the line of a fault why a file can't be opened or read, or the reader where they
-/// watch it, and with `--progress` how much is done: on the standard error of their runtime, of which no clause speaks.
+/// With `--verbose`, or where the standard error of their runtime is a terminal, the diagnostics tell after the line of a fault
+/// why a file can't be opened or read, or the reader where they watch it, and after a refusal what the text looks like; with
+/// `--progress` how much is done. All of this goes to that standard error, of which no clause speaks.
 pub fn drive<
     H: Threads + Wait + Sync + Files + AllocGlobal + Eprint + Clock,
     R: Read,
@@ -66,7 +67,18 @@ pub fn drive<
     if status == FAULT {
         diagnostics.tell_failure();
     }
+    if status == REFUSED {
+        diagnostics.tell_hint(subcommand_of(arguments));
+    }
     status
+}
+
+/// The subcommand that the arguments name: without arguments what the reader has is judged.
+fn subcommand_of(arguments: &[String]) -> &str {
+    match arguments.first() {
+        Some(word) => word.as_str(),
+        None => "judge",
+    }
 }
 
 /// Does the same over these files, which need not be the system's.

@@ -16,6 +16,7 @@ mod driving;
 mod endings;
 mod failures;
 mod files;
+mod hints;
 mod printing;
 mod serving;
 mod units;
