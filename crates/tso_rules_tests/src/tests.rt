@@ -15,9 +15,21 @@ mod rows;
 use order_graph::{EdgeSet, Graph, PathSearch};
 use std::alloc::{AllocError, Global};
 use std::process::Abort;
+use std::test::Fail;
+use traces_for_tests::{TWO_SWAPS_BOTH_FIRST, trace_of};
 use tso_cert::{InferredRule, Reason};
-use tso_ops::Trace;
+use tso_ops::{Order, Outcome, Trace};
 use tso_rules::{base_row, justify, row_edges};
+
+/// The trace of processors that did this under TSO.
+fn tso_trace(alloc: Global, rows: &[&[Outcome]]) -> Result<Trace, Fail> {
+    Ok(trace_of(alloc, Order::Tso, rows)?)
+}
+
+/// The trace two_swaps_both_first.
+fn two_swaps(alloc: Global) -> Result<Trace, Fail> {
+    tso_trace(alloc, TWO_SWAPS_BOTH_FIRST.rows)
+}
 
 /// The edge from u to v, for numbers of the graph.
 fn join(graph: &mut Graph, u: usize, v: usize) {
@@ -29,8 +41,8 @@ fn join(graph: &mut Graph, u: usize, v: usize) {
 /// A graph with these edges.
 fn graph_of(alloc: Global, nodes: usize, edges: &[(usize, usize)]) -> Result<Graph, AllocError> {
     let mut graph = Graph::new(alloc, nodes)?;
-    for (u, v) in edges.iter().copied() {
-        join(&mut graph, u, v);
+    for (u, v) in edges {
+        join(&mut graph, *u, *v);
     }
     Ok(graph)
 }
@@ -62,13 +74,18 @@ fn set_of(graph: &Graph) -> Result<EdgeSet, AllocError> {
     graph.edge_set()
 }
 
+/// The edges from u to each of a row.
+fn join_row(graph: &mut Graph, u: usize, row: &[usize]) {
+    for v in row {
+        join(graph, u, *v);
+    }
+}
+
 /// Adds the trace's base edges, by their rows.
 fn add_base_edges(alloc: Global, trace: &Trace, graph: &mut Graph) -> Result<(), AllocError> {
     for u in (0..graph.nodes()).rev() {
         let row = row_of(alloc, trace, u)?;
-        for v in row.iter().copied() {
-            join(graph, u, v);
-        }
+        join_row(graph, u, &row);
     }
     Ok(())
 }
@@ -103,10 +120,6 @@ fn expect_inferred(
     path: &[u64],
 ) {
     assert!(rt; is_inferred(found, rule, load, path), "{found:?}");
-}
-
-fn expect_no_reason(rt: &impl Abort, found: &Option<Reason>) {
-    assert!(rt; found.is_none(), "{found:?}");
 }
 
 /// Compares a row of numbers.

@@ -1,12 +1,11 @@
-//! Small traces are smallest: reduced again they stay, and nothing can be left out of them.
+//! Small traces are smallest: nothing can be left out of them.
 
-use super::cases::{COHERENCE, MESSAGE_PASSING, STORE_BUFFERING, STORE_OF_A_SWAP, SWAPS};
-use super::expect_case;
+use super::cases::SEVERAL;
 use std::alloc::Global;
 use std::sync::Wait;
 use std::test::Fail;
 use std::thread::Threads;
-use trace_judging::{Verdict, find_violation};
+use trace_judging::find_violation;
 use traces_for_tests::expect_equal;
 use tso_ops::{OutOfMemory, Outcome, Trace, ValueFault};
 use tso_text::read_trace;
@@ -91,44 +90,31 @@ fn push_operations(
     Ok(())
 }
 
+/// Whether the trace without an operation is a violation.
+fn is_violation_without<H: Threads + Wait>(
+    rt: &H,
+    alloc: Global,
+    trace: &Trace,
+    left_out: LeftOut,
+) -> Result<bool, Fail> {
+    let fewer = without(alloc, trace, left_out)?;
+    Ok(find_violation(rt, alloc, &fewer, 1)?.certificate.is_some())
+}
+
 /// Judges the trace of a text without each of its operations: it is no violation.
 fn expect_smallest<H: Threads + Wait>(rt: &H, alloc: Global, text: &str) -> Result<(), Fail> {
-    let Ok(trace) = read_trace(alloc, text.as_bytes()) else {
-        return expect_equal(text, "refused", "read");
-    };
-    for left_out in operations(alloc, &trace)? {
-        let Ok(fewer) = without(alloc, &trace, left_out) else {
-            return expect_equal(text, "refused", "made");
-        };
-        let found = match find_violation(rt, alloc, &fewer, 1) {
-            Ok(finding) => finding.certificate.is_some(),
-            Err(_) => true,
-        };
-        expect_equal(left_out, found, false)?;
+    let trace = read_trace(alloc, text.as_bytes())?;
+    for left_out in &operations(alloc, &trace)? {
+        let found = is_violation_without(rt, alloc, &trace, *left_out)?;
+        expect_equal(*left_out, found, false)?;
     }
     Ok(())
 }
 
 #[test]
 fn nothing_can_be_left_out(rt: HostRuntime) -> Result<(), Fail> {
-    for case in [
-        STORE_BUFFERING,
-        MESSAGE_PASSING,
-        COHERENCE,
-        SWAPS,
-        STORE_OF_A_SWAP,
-    ] {
-        expect_smallest(&rt, rt.alloc(), case.2)?;
+    for (_, _, small, _) in &SEVERAL {
+        expect_smallest(&rt, rt.alloc(), small)?;
     }
     Ok(())
-}
-
-#[test]
-fn small_traces_stay(rt: HostRuntime) -> Result<(), Fail> {
-    let (_, _, small, _) = MESSAGE_PASSING;
-    let notes = "line 3 P0 'ld 0 2'\nline 4 P0 'ld 1 0'\nline 6 P1 'st 1 1'\nline 7 P1 'st 0 2'\n";
-    expect_case(&rt, rt.alloc(), (small, Verdict::Violation, small, notes))?;
-    let small = "tso trace 2\nproc\nld 0 1\nend\n";
-    let notes = "line 3 P0 'ld 0 1'\n";
-    expect_case(&rt, rt.alloc(), (small, Verdict::Violation, small, notes))
 }

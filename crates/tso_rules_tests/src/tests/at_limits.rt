@@ -1,7 +1,7 @@
 //! Calls on traces with as many events as the two versions allow.
 
 use super::{edges_of, expect_inferred, expect_row, join, reason_of, row_of, set_of};
-use order_graph::Graph;
+use order_graph::{Graph, PathSearch};
 use std::alloc::{AllocError, Global};
 use std::process::Abort;
 use std::test::Fail;
@@ -20,7 +20,7 @@ struct Limit {
 }
 
 /// That of version 1, and that of version 2.
-const LIMITS: [Limit; 2] = [
+static LIMITS: [Limit; 2] = [
     Limit {
         events: 2_000,
         first: 0,
@@ -34,7 +34,7 @@ const LIMITS: [Limit; 2] = [
 ];
 
 /// A processor that only loads the first value of address 1, and one that then stores there: the last event.
-fn trace_at(alloc: Global, limit: Limit) -> Result<Trace, ValueFault> {
+fn trace_at(alloc: Global, limit: &Limit) -> Result<Trace, ValueFault> {
     let loads = vec![in alloc; ld(1, limit.first); limit.events.saturating_sub(1)]?;
     if limit.first == 0 {
         trace_of(alloc, Order::Tso, &[&loads, &[st(1, 1)]])
@@ -44,7 +44,7 @@ fn trace_at(alloc: Global, limit: Limit) -> Result<Trace, ValueFault> {
 }
 
 /// The 201 multiples of the step up to the last event.
-fn path_at(alloc: Global, limit: Limit) -> Result<Vec<u64>, AllocError> {
+fn path_at(alloc: Global, limit: &Limit) -> Result<Vec<u64>, AllocError> {
     let mut path = Vec::new(alloc);
     for number in 0..=limit.events {
         if number.checked_rem(limit.step) == Some(0) {
@@ -63,52 +63,81 @@ fn graph_at(alloc: Global, trace: &Trace, path: &[u64]) -> Result<Graph, AllocEr
     Ok(graph)
 }
 
-/// Compares the reason by which the first load comes before the store, over a graph and over a set: that a path leads to
-/// the store from 0, whose value was loaded.
-fn expect_reasons(
+/// Compares the reason by which the first load comes before the store: that a path leads to the store from 0, whose value
+/// was loaded.
+fn expect_reason<G: PathSearch>(
     rt: &impl Abort,
     alloc: Global,
     trace: &Trace,
-    graph: &Graph,
+    graph: &G,
     path: &[u64],
 ) -> Result<(), AllocError> {
-    let store = trace.events();
-    let found = reason_of(alloc, trace, graph, 1, store)?;
-    expect_inferred(rt, &found, InferredRule::StorePast, 1, path);
-    let set = set_of(graph)?;
-    let found = reason_of(alloc, trace, &set, 1, store)?;
+    let found = reason_of(alloc, trace, graph, 1, trace.events())?;
     expect_inferred(rt, &found, InferredRule::StorePast, 1, path);
     Ok(())
 }
 
-/// Compares the base edges from 0 and from the first load, those that the graph adds to these, and the loads whose rows
-/// rest on 0.
-fn expect_rows(
+/// The numbers of all events.
+fn events_of(alloc: Global, trace: &Trace) -> Result<Vec<usize>, AllocError> {
+    (1..=trace.events()).collect(alloc)
+}
+
+/// Compares the base edges from 0 and from the first load, and the loads whose rows rest on 0.
+fn expect_base_rows(
     rt: &impl Abort,
     alloc: Global,
     trace: &Trace,
-    graph: &Graph,
+    events: &[usize],
 ) -> Result<(), AllocError> {
-    let store = trace.events();
-    let events: Vec<usize> = (1..=store).collect(alloc)?;
-    let loads = events.get(..store.saturating_sub(1)).unwrap_or(&[]);
-    let later = loads.get(1..).unwrap_or(&[]);
-    expect_row(rt, "0", &row_of(alloc, trace, 0)?, &events);
-    expect_row(rt, "1", &row_of(alloc, trace, 1)?, later);
-    expect_row(rt, "new", &edges_of(alloc, trace, graph, 1)?, &[store]);
+    let loads = events.get(..events.len().saturating_sub(1)).unwrap_or(&[]);
+    expect_row(rt, "0", &row_of(alloc, trace, 0)?, events);
+    expect_row(
+        rt,
+        "1",
+        &row_of(alloc, trace, 1)?,
+        loads.get(1..).unwrap_or(&[]),
+    );
     expect_row(rt, "rest", &affected_rows(alloc, trace, &[0])?, loads);
     Ok(())
 }
 
+/// Compares the edge that a graph of the path adds to the base edges from the first load, and its reason over the graph and
+/// over a set of its edges.
+fn expect_of_path(
+    rt: &impl Abort,
+    alloc: Global,
+    trace: &Trace,
+    path: &[u64],
+) -> Result<(), AllocError> {
+    let graph = graph_at(alloc, trace, path)?;
+    expect_row(
+        rt,
+        "new",
+        &edges_of(alloc, trace, &graph, 1)?,
+        &[trace.events()],
+    );
+    expect_reason(rt, alloc, trace, &graph, path)?;
+    let set = set_of(&graph)?;
+    expect_reason(rt, alloc, trace, &set, path)
+}
+
+fn expect_rows(
+    rt: &impl Abort,
+    alloc: Global,
+    trace: &Trace,
+    limit: &Limit,
+) -> Result<(), AllocError> {
+    let events = events_of(alloc, trace)?;
+    expect_base_rows(rt, alloc, trace, &events)?;
+    let path = path_at(alloc, limit)?;
+    expect_of_path(rt, alloc, trace, &path)
+}
+
 #[test]
 fn traces_of_the_most_events(rt: HostRuntime) -> Result<(), Fail> {
-    let alloc = rt.alloc();
-    for limit in LIMITS {
-        let trace = trace_at(alloc, limit)?;
-        let path = path_at(alloc, limit)?;
-        let graph = graph_at(alloc, &trace, &path)?;
-        expect_reasons(&rt, alloc, &trace, &graph, &path)?;
-        expect_rows(&rt, alloc, &trace, &graph)?;
+    for limit in &LIMITS {
+        let trace = trace_at(rt.alloc(), limit)?;
+        expect_rows(&rt, rt.alloc(), &trace, limit)?;
     }
     Ok(())
 }

@@ -33,11 +33,6 @@ fn reach_of(alloc: Global, keys: &[u16], count: usize) -> Result<Reach, AllocErr
     Reach::new(alloc, groups_of(alloc, keys, count)?)
 }
 
-/// Whether x leads to y; what is no number does not.
-fn leads(reach: &Reach, x: usize, y: usize) -> bool {
-    x < reach.chains().nodes() && y < reach.chains().nodes() && reach.leads(x, y)
-}
-
 /// Lets u lead to v, where both are numbers.
 fn join(reach: &mut Reach, u: usize, v: usize) {
     if u < reach.chains().nodes() && v < reach.chains().nodes() {

@@ -2,19 +2,20 @@
 ghost use Rattle.std.specs.Prelude.{◌≡◌, ◌<◌, ◌/◌, ℕ, IfOk};
 ghost use Rattle.bitsets.specs.Rows.{HasNumber};
 
+mod asked;
 mod at_limits;
 mod bit_rows;
+mod by_hand;
 mod edge_rows;
 mod edge_sets;
-mod grown;
 mod of_rows;
-mod paths_and_cycles;
+mod rings;
 
 use bitsets::set_bit;
 use order_graph::{EdgeRows, Graph};
 use std::alloc::{AllocError, Global};
 use std::test::Fail;
-use traces_for_tests::{expect_equal, next_word};
+use traces_for_tests::expect_equal;
 
 /// The edge from u to v, for numbers of the graph.
 fn join(graph: &mut Graph, u: usize, v: usize) {
@@ -24,8 +25,15 @@ fn join(graph: &mut Graph, u: usize, v: usize) {
 }
 
 fn join_all(graph: &mut Graph, edges: &[(usize, usize)]) {
-    for (u, v) in edges.iter().copied() {
-        join(graph, u, v);
+    for (u, v) in edges {
+        join(graph, *u, *v);
+    }
+}
+
+/// The edges from 0 to 1, from 1 to 2 and so on up to this number.
+fn join_along(graph: &mut Graph, last: usize) {
+    for u in 0..last {
+        join(graph, u, u.saturating_add(1));
     }
 }
 
@@ -53,17 +61,13 @@ fn graph_of_rows(
     edges: &[(usize, usize)],
 ) -> Result<Graph, AllocError> {
     let mut rows = EdgeRows::new(alloc, nodes)?;
-    for (u, v) in edges.iter().copied() {
-        let row = row_of(alloc, v, v / 64 + 1)?;
-        if u < rows.nodes() && v < rows.nodes() {
-            rows.add_row(u, &row);
+    for (u, v) in edges {
+        let row = row_of(alloc, *v, *v / 64 + 1)?;
+        if *u < rows.nodes() && *v < rows.nodes() {
+            rows.add_row(*u, &row);
         }
     }
     Graph::of_rows(rows)
-}
-
-fn nodes_of(graph: &Graph) -> usize {
-    graph.nodes()
 }
 
 fn has(graph: &Graph, u: usize, v: usize) -> bool {
@@ -107,45 +111,55 @@ fn numbers_of(found: &Option<Vec<usize>>) -> &[usize] {
     }
 }
 
-/// Compares the least path between the two with the numbers expected, of which none means that there is no path.
-fn expect_path(graph: &Graph, ends: (usize, usize), expected: &[usize]) -> Result<(), Fail> {
-    let found = least_path(graph, ends.0, ends.1)?;
-    expect_equal(ends, numbers_of(&found), expected)
-}
-
-/// Compares the least cycle with the numbers expected, of which none means that there is no cycle.
-fn expect_cycle(graph: &Graph, expected: &[usize]) -> Result<(), Fail> {
-    let found = graph.least_cycle()?;
-    expect_equal("the least cycle", numbers_of(&found), expected)
-}
-
-/// The number below the bound that the next word draws.
-fn drawn_number(word: &mut u64, bound: usize) -> usize {
-    *word = next_word(*word);
-    ((*word >> 33) as usize).checked_rem(bound).unwrap_or(0)
-}
-
-/// So many edges of numbers below `nodes`.
-fn drawn_edges(
-    alloc: Global,
-    word: &mut u64,
-    nodes: usize,
-    count: usize,
-) -> Result<Vec<(usize, usize)>, AllocError> {
-    let mut edges = Vec::new(alloc);
-    for _ in 0..count {
-        let u = drawn_number(word, nodes);
-        let v = drawn_number(word, nodes);
-        edges.push((u, v))?;
-    }
-    Ok(edges)
-}
-
 fn least_cycle(graph: &Graph) -> Result<Option<Vec<usize>>, AllocError> {
     graph.least_cycle()
 }
 
+/// Compares the least path between the two with the numbers expected, of which none means that there is no path.
+fn expect_path(
+    graph: &Graph,
+    name: &'static str,
+    ends: (usize, usize),
+    expected: &[usize],
+) -> Result<(), Fail> {
+    let found = least_path(graph, ends.0, ends.1)?;
+    expect_numbers(name, ends, numbers_of(&found), expected)
+}
+
+/// Compares the least cycle with the numbers expected, of which none means that there is no cycle.
+fn expect_cycle(graph: &Graph, name: &'static str, expected: &[usize]) -> Result<(), Fail> {
+    let found = graph.least_cycle()?;
+    expect_numbers(name, (0, 0), numbers_of(&found), expected)
+}
+
+/// Compares the numbers that have come to reach more since the graph was settled.
+fn expect_grown(graph: &Graph, name: &'static str, expected: &[usize]) -> Result<(), Fail> {
+    let grown = graph.grown()?;
+    expect_numbers(name, (0, 0), grown.as_slice(), expected)?;
+    expect_equal((name, 0, 0), has_grown_at(graph, expected), true)
+}
+
+/// Whether just these numbers have come to reach more, asked of each.
+fn has_grown_at(graph: &Graph, expected: &[usize]) -> bool {
+    for u in 0..graph.nodes() {
+        if graph.grew(u) != expected.contains(&u) {
+            return false;
+        }
+    }
+    true
+}
+
+/// Compares numbers that a graph answered for these ends.
+fn expect_numbers(
+    name: &'static str,
+    ends: (usize, usize),
+    found: &[usize],
+    expected: &[usize],
+) -> Result<(), Fail> {
+    expect_equal((name, ends.0, ends.1), found, expected)
+}
+
 /// Compares the words of the row of paths from u.
-fn expect_words(graph: &Graph, u: usize, words: &[u64]) -> Result<(), Fail> {
-    expect_equal(u, path_words(graph, u), words)
+fn expect_words(graph: &Graph, name: &'static str, u: usize, words: &[u64]) -> Result<(), Fail> {
+    expect_equal((name, u, u), path_words(graph, u), words)
 }

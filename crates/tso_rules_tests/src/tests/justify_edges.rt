@@ -1,11 +1,11 @@
 //! Reasons of edges, over graphs and over sets of edges.
 
-use super::{base_graph, join_first_round, reason_of, set_of};
-use order_graph::{EdgeSet, PathSearch};
+use super::{base_graph, join_first_round, reason_of, set_of, two_swaps};
+use order_graph::{EdgeSet, Graph, PathSearch};
 use std::alloc::{AllocError, Global};
 use std::fmt::Write;
 use std::test::Fail;
-use traces_for_tests::{expect_equal, two_swaps_both_first};
+use traces_for_tests::expect_equal;
 use tso_cert::Reason;
 use tso_ops::Trace;
 
@@ -28,33 +28,47 @@ fn text_of(alloc: Global, reason: &Option<Reason>) -> Result<String, AllocError>
 /// An edge, and its reason.
 type Case = ((usize, usize), &'static str);
 
+/// Compares the reason of an edge.
+fn expect_reason<G: PathSearch>(
+    alloc: Global,
+    trace: &Trace,
+    graph: &G,
+    case: &Case,
+) -> Result<(), Fail> {
+    let ((u, v), expected) = case;
+    let found = reason_of(alloc, trace, graph, *u, *v)?;
+    let text = text_of(alloc, &found)?;
+    expect_equal((*u, *v), text.as_str(), *expected)
+}
+
 fn expect_reasons<G: PathSearch>(
     alloc: Global,
     trace: &Trace,
     graph: &G,
     cases: &[Case],
 ) -> Result<(), Fail> {
-    for ((u, v), expected) in cases {
-        let found = reason_of(alloc, trace, graph, *u, *v)?;
-        let text = text_of(alloc, &found)?;
-        expect_equal((*u, *v), text.as_str(), *expected)?;
+    for case in cases {
+        expect_reason(alloc, trace, graph, case)?;
     }
     Ok(())
 }
 
 /// Over the base edges of two_swaps_both_first.
-const OVER_BASE: [Case; 4] = [
+static OVER_BASE: [Case; 5] = [
     ((0, 4), "Init"),
     ((1, 2), "LoadOp"),
     ((1, 4), "StorePast 1 0 4"),
     ((4, 1), ""),
+    ((2, 4), ""),
 ];
 
-#[test]
-fn reasons_by_hand(rt: HostRuntime) -> Result<(), Fail> {
-    let trace = two_swaps_both_first(rt.alloc())?;
-    let graph = base_graph(rt.alloc(), &trace)?;
-    expect_reasons(rt.alloc(), &trace, &graph, &OVER_BASE)
+/// Compares reasons over the graph of the base edges, and over that of those of the first round too, which it gives.
+fn expect_over_graphs(alloc: Global, trace: &Trace) -> Result<Graph, Fail> {
+    let mut graph = base_graph(alloc, trace)?;
+    expect_reasons(alloc, trace, &graph, &OVER_BASE)?;
+    join_first_round(&mut graph);
+    expect_reasons(alloc, trace, &graph, &OVER_FIRST_ROUND)?;
+    Ok(graph)
 }
 
 fn remove(set: &mut EdgeSet, u: usize, v: usize) {
@@ -63,23 +77,22 @@ fn remove(set: &mut EdgeSet, u: usize, v: usize) {
     }
 }
 
-/// The set of the base edges of two_swaps_both_first and of those of the first round.
-fn first_round(alloc: Global, trace: &Trace) -> Result<EdgeSet, AllocError> {
-    let mut graph = base_graph(alloc, trace)?;
-    join_first_round(&mut graph);
-    set_of(&graph)
+/// Over these edges, and once the edge from 1 to 4 is removed.
+static OVER_FIRST_ROUND: [Case; 1] = [((2, 4), "SwapAfter 1 1 4")];
+
+static OVER_OTHERS: [Case; 3] = [((2, 4), ""), ((1, 4), "StorePast 1 0 4"), ((0, 4), "Init")];
+
+/// Compares reasons over the set of these edges, before and after an edge is removed.
+fn expect_over_set(alloc: Global, trace: &Trace, graph: &Graph) -> Result<(), Fail> {
+    let mut set = set_of(graph)?;
+    expect_reasons(alloc, trace, &set, &OVER_FIRST_ROUND)?;
+    remove(&mut set, 1, 4);
+    expect_reasons(alloc, trace, &set, &OVER_OTHERS)
 }
 
-/// Over these edges, and once the edge from 1 to 4 is removed.
-const OVER_FIRST_ROUND: [Case; 1] = [((2, 4), "SwapAfter 1 1 4")];
-
-const OVER_OTHERS: [Case; 3] = [((2, 4), ""), ((1, 4), "StorePast 1 0 4"), ((0, 4), "Init")];
-
 #[test]
-fn reasons_over_removed_edges(rt: HostRuntime) -> Result<(), Fail> {
-    let trace = two_swaps_both_first(rt.alloc())?;
-    let mut set = first_round(rt.alloc(), &trace)?;
-    expect_reasons(rt.alloc(), &trace, &set, &OVER_FIRST_ROUND)?;
-    remove(&mut set, 1, 4);
-    expect_reasons(rt.alloc(), &trace, &set, &OVER_OTHERS)
+fn reasons_by_hand(rt: HostRuntime) -> Result<(), Fail> {
+    let trace = two_swaps(rt.alloc())?;
+    let graph = expect_over_graphs(rt.alloc(), &trace)?;
+    expect_over_set(rt.alloc(), &trace, &graph)
 }

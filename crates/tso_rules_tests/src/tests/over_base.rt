@@ -5,13 +5,13 @@ ghost use Rattle.tso_ops.specs.Events.{event_total};
 ghost use Rattle.tso_model.specs.Ranks.{RankSet};
 ghost use Rattle.reference_rounds.specs.EdgeLists.{HasPair, AreEdgesBelow};
 
-use super::expect_row;
+use super::{expect_row, tso_trace};
 use order_graph::Graph;
 use reference_rounds::base_edges;
 use std::alloc::{AllocError, Global};
+use std::process::Abort;
 use std::test::Fail;
-use traces_for_tests::trace_of;
-use tso_ops::{Order, Outcome, Trace};
+use tso_ops::{Outcome, Trace};
 use tso_rules::{SourceMasks, row_edges_over_base};
 
 /// The graph of these edges, among them the base edges.
@@ -41,7 +41,7 @@ pub fn row_over_base(alloc: Global, trace: &Trace, u: usize) -> Result<Vec<usize
 
 /// The stores 1, 7 and 8 to one address; two processors load what 1 wrote, and then the one what 7 wrote, the other what
 /// 8 wrote. Number 4 is a load of another address.
-pub const LOADED_IN_TURN: [&[Outcome]; 5] = [
+pub static LOADED_IN_TURN: [&[Outcome]; 5] = [
     &[Outcome::St { a: 1, v: 1 }],
     &[
         Outcome::Ld { a: 1, r: 1 },
@@ -53,12 +53,28 @@ pub const LOADED_IN_TURN: [&[Outcome]; 5] = [
     &[Outcome::St { a: 1, v: 3 }],
 ];
 
+fn expect_over_base(
+    rt: &impl Abort,
+    alloc: Global,
+    trace: &Trace,
+    rows: &[(usize, &[usize])],
+) -> Result<(), AllocError> {
+    for (u, row) in rows {
+        expect_row(
+            rt,
+            "over base edges",
+            &row_over_base(alloc, trace, *u)?,
+            row,
+        );
+    }
+    Ok(())
+}
+
+/// Numbers and their rows.
+static ROWS: [(usize, &[usize]); 3] = [(1, &[7, 8]), (2, &[]), (7, &[])];
+
 #[test]
 fn rows_of_stores_loaded_in_turn(rt: HostRuntime) -> Result<(), Fail> {
-    let alloc = rt.alloc();
-    let trace = trace_of(alloc, Order::Tso, &LOADED_IN_TURN)?;
-    expect_row(&rt, "1", &row_over_base(alloc, &trace, 1)?, &[7, 8]);
-    expect_row(&rt, "2", &row_over_base(alloc, &trace, 2)?, &[]);
-    expect_row(&rt, "7", &row_over_base(alloc, &trace, 7)?, &[]);
-    Ok(())
+    let trace = tso_trace(rt.alloc(), &LOADED_IN_TURN)?;
+    Ok(expect_over_base(&rt, rt.alloc(), &trace, &ROWS)?)
 }

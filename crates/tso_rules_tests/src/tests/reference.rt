@@ -1,12 +1,13 @@
 //! The reference program of the rounds on small traces.
 
+use super::{tso_trace, two_swaps};
 use reference_rounds::{
     base_edges, has_cycle, has_edge, has_path, has_unwritten_load, is_inferred_pair, new_edges,
     rank_set, rounds_number,
 };
 use std::alloc::Global;
 use std::test::Fail;
-use traces_for_tests::{TWO_SWAPS_EDGES, expect_equal, store_buffering, two_swaps_both_first};
+use traces_for_tests::{STORE_BUFFERING, TWO_SWAPS_EDGES, expect_equal};
 use tso_ops::{OutOfMemory, Trace};
 use tso_text::read_trace;
 
@@ -91,11 +92,20 @@ fn answer_of(alloc: Global, trace: &Trace) -> Result<(usize, bool, bool), OutOfM
     Ok((rounds, is_cyclic, has_unwritten_load(trace)))
 }
 
+/// Compares the answer of the trace of which this is the text.
+fn expect_answer(
+    alloc: Global,
+    text: &'static str,
+    answer: (usize, bool, bool),
+) -> Result<(), Fail> {
+    let trace = read_trace(alloc, text.as_bytes())?;
+    expect_equal(text, answer_of(alloc, &trace)?, answer)
+}
+
 #[test]
 fn rounds_of_small_traces(rt: HostRuntime) -> Result<(), Fail> {
     for (text, answer) in &TRACES {
-        let trace = read_trace(rt.alloc(), text.as_bytes())?;
-        expect_equal(text, answer_of(rt.alloc(), &trace)?, *answer)?;
+        expect_answer(rt.alloc(), text, *answer)?;
     }
     Ok(())
 }
@@ -111,13 +121,18 @@ fn expect_edges(edges: &[(usize, usize)], wanted: &[(usize, usize)]) -> Result<(
 }
 
 /// Rank sets of two_swaps_both_first, and how many of `TWO_SWAPS_EDGES` they have.
-const RANK_SETS: [(usize, usize); 3] = [(0, 6), (1, 8), (2, 10)];
+static RANK_SETS: [(usize, usize); 3] = [(0, 6), (1, 8), (2, 10)];
+
+fn expect_rank_set(alloc: Global, trace: &Trace, k: usize, count: usize) -> Result<(), Fail> {
+    let edges = rank_set(alloc, trace, k)?;
+    expect_edges(&edges, TWO_SWAPS_EDGES.get(..count).unwrap_or(&[]))
+}
 
 #[test]
 fn rank_sets_of_two_swaps(rt: HostRuntime) -> Result<(), Fail> {
-    let trace = two_swaps_both_first(rt.alloc())?;
-    for (k, count) in RANK_SETS {
-        expect_edges(&rank_set(rt.alloc(), &trace, k)?, &TWO_SWAPS_EDGES[..count])?;
+    let trace = two_swaps(rt.alloc())?;
+    for (k, count) in &RANK_SETS {
+        expect_rank_set(rt.alloc(), &trace, *k, *count)?;
     }
     Ok(())
 }
@@ -136,11 +151,25 @@ fn facts_of(alloc: Global, trace: &Trace) -> Result<[bool; 5], OutOfMemory> {
     ])
 }
 
+static FACTS: [bool; 5] = [false, true, false, true, false];
+
+fn expect_facts(alloc: Global, trace: &Trace) -> Result<(), Fail> {
+    let facts = facts_of(alloc, trace)?;
+    expect_equal("facts", facts.as_slice(), FACTS.as_slice())
+}
+
+/// The edges that the first round of store_buffering adds.
+static NEW_EDGES: [(usize, usize); 2] = [(2, 3), (4, 1)];
+
+fn expect_new_edges(alloc: Global, trace: &Trace) -> Result<(), Fail> {
+    let edges = base_edges(alloc, trace)?;
+    let new = new_edges(alloc, trace, &edges)?;
+    expect_edges(&new, &NEW_EDGES)
+}
+
 #[test]
 fn first_round_of_store_buffering(rt: HostRuntime) -> Result<(), Fail> {
-    let trace = store_buffering(rt.alloc())?;
-    let facts = facts_of(rt.alloc(), &trace)?;
-    expect_equal("facts", facts, [false, true, false, true, false])?;
-    let edges = base_edges(rt.alloc(), &trace)?;
-    expect_edges(&new_edges(rt.alloc(), &trace, &edges)?, &[(2, 3), (4, 1)])
+    let trace = tso_trace(rt.alloc(), &STORE_BUFFERING)?;
+    expect_facts(rt.alloc(), &trace)?;
+    expect_new_edges(rt.alloc(), &trace)
 }

@@ -7,6 +7,7 @@ use super::rows::{OWN_STORE_OVERWRITTEN, expect_words, masked_words_of};
 use super::{edges_of, expect_inferred, expect_row, graph_of, reason_of, row_of, set_of};
 use order_graph::{EdgeSet, Graph, PathSearch};
 use std::alloc::{AllocError, Global};
+use std::process::Abort;
 use std::test::Fail;
 use traces_for_tests::{TWO_SWAPS_EDGES, trace_of, two_swaps_both_first};
 use tso_cert::{InferredRule, Reason};
@@ -88,50 +89,45 @@ fn reason<G: PathSearch>(
     }
 }
 
-#[test]
-fn refused_allocations_of_a_base_row(rt: HostRuntime) -> Result<(), Fail> {
-    let alloc = rt.alloc();
-    let row = base(alloc, &trace(alloc)?)?;
-    expect_row(&rt, "base edges from 0", &row, &[1, 2, 3, 4]);
+/// Compares the reason of the edge from 2 to 4.
+fn expect_reason<G: PathSearch>(
+    rt: &impl Abort,
+    alloc: Global,
+    trace: &Trace,
+    graph: &G,
+) -> Result<(), AllocError> {
+    let found = reason(alloc, trace, graph)?;
+    expect_inferred(rt, &found, InferredRule::SwapAfter, 1, &[1, 4]);
     Ok(())
+}
+
+/// Compares the base edges from 0, those from 2 over a graph, and a reason over it and over a set of its edges.
+fn expect_of_swaps(rt: &impl Abort, alloc: Global, trace: &Trace) -> Result<(), AllocError> {
+    expect_row(rt, "base edges from 0", &base(alloc, trace)?, &[1, 2, 3, 4]);
+    let graph = graph(alloc)?;
+    expect_row(rt, "edges from 2", &edges(alloc, trace, &graph)?, &[4]);
+    expect_reason(rt, alloc, trace, &graph)?;
+    expect_reason(rt, alloc, trace, &set(&graph)?)
+}
+
+#[test]
+fn refused_allocations_of_rows_and_reasons(rt: HostRuntime) -> Result<(), Fail> {
+    let trace = trace(rt.alloc())?;
+    Ok(expect_of_swaps(&rt, rt.alloc(), &trace)?)
 }
 
 #[test]
 fn refused_allocations_of_a_masked_base_row(rt: HostRuntime) -> Result<(), Fail> {
-    let alloc = rt.alloc();
-    let row = masked_base(alloc, &own_store_overwritten(alloc)?)?;
+    let trace = own_store_overwritten(rt.alloc())?;
+    let row = masked_base(rt.alloc(), &trace)?;
     expect_words(&rt, "base edges from 1", &row, &[0b10000]);
     Ok(())
 }
 
 #[test]
-fn refused_allocations_of_row_edges(rt: HostRuntime) -> Result<(), Fail> {
-    let alloc = rt.alloc();
-    let row = edges(alloc, &trace(alloc)?, &graph(alloc)?)?;
-    expect_row(&rt, "edges from 2", &row, &[4]);
-    Ok(())
-}
-
-#[test]
 fn refused_allocations_of_row_edges_over_base(rt: HostRuntime) -> Result<(), Fail> {
-    let alloc = rt.alloc();
-    let row = edges_over_base(alloc, &loaded_in_turn(alloc)?)?;
+    let trace = loaded_in_turn(rt.alloc())?;
+    let row = edges_over_base(rt.alloc(), &trace)?;
     expect_row(&rt, "edges from 1", &row, &[7, 8]);
-    Ok(())
-}
-
-#[test]
-fn refused_allocations_of_a_reason(rt: HostRuntime) -> Result<(), Fail> {
-    let alloc = rt.alloc();
-    let found = reason(alloc, &trace(alloc)?, &graph(alloc)?)?;
-    expect_inferred(&rt, &found, InferredRule::SwapAfter, 1, &[1, 4]);
-    Ok(())
-}
-
-#[test]
-fn refused_allocations_of_a_reason_over_a_set(rt: HostRuntime) -> Result<(), Fail> {
-    let alloc = rt.alloc();
-    let found = reason(alloc, &trace(alloc)?, &set(&graph(alloc)?)?)?;
-    expect_inferred(&rt, &found, InferredRule::SwapAfter, 1, &[1, 4]);
     Ok(())
 }

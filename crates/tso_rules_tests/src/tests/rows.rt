@@ -1,16 +1,13 @@
 //! Base edges, and rows over a graph.
 
-use super::{
-    base_graph, edges_of, expect_inferred, expect_no_reason, expect_row, join_first_round,
-    reason_of, row_of,
-};
+use super::{base_graph, edges_of, expect_row, join_first_round, row_of, tso_trace, two_swaps};
 use order_graph::Graph;
 use std::alloc::{AllocError, Global};
 use std::process::Abort;
 use std::test::Fail;
-use traces_for_tests::{STORE_BUFFERING, trace_of, two_swaps_both_first};
-use tso_cert::{BaseRule, InferredRule};
-use tso_ops::{Order, Outcome, Trace};
+use traces_for_tests::{STORE_BUFFERING, expect_equal};
+use tso_cert::BaseRule;
+use tso_ops::{Outcome, Trace};
 use tso_rules::{SourceMasks, base_edge, base_words, masked_base_words};
 
 fn words_of(alloc: Global, trace: &Trace, u: usize) -> Result<Vec<u64>, AllocError> {
@@ -23,57 +20,59 @@ pub fn masked_words_of(alloc: Global, trace: &Trace, u: usize) -> Result<Vec<u64
     masked_base_words(alloc, trace, &masks, u)
 }
 
-fn rule_of(trace: &Trace, u: usize, v: usize) -> Option<BaseRule> {
-    base_edge(trace, u, v)
-}
-
 pub fn expect_words(rt: &impl Abort, name: &str, found: &[u64], wanted: &[u64]) {
     assert_eq!(rt; found, wanted, "{name}");
 }
 
-fn expect_rule(
-    rt: &impl Abort,
-    alloc: Global,
-    rows: &[&[Outcome]],
-    edge: (usize, usize),
-    rule: Option<BaseRule>,
-) -> Result<(), Fail> {
-    let trace = trace_of(alloc, Order::Tso, rows)?;
-    let found = rule_of(&trace, edge.0, edge.1);
-    assert_eq!(rt; found, rule, "{edge:?} of {rows:?}");
-    Ok(())
+/// The name of a rule, none where there is none.
+fn name_of(rule: Option<BaseRule>) -> &'static str {
+    match rule {
+        Some(rule) => rule.name(),
+        None => "",
+    }
 }
 
-const OWN_STORE_MISSED: [&[Outcome]; 1] = [&[
-    Outcome::St { a: 1, v: 1 },
-    Outcome::Ld { a: 1, r: 0 },
-]];
+/// A trace, two of its numbers, and the rule of the base edge between them, none where there is no such edge.
+type Edge = (&'static [&'static [Outcome]], (usize, usize), &'static str);
 
-const SWAP_READS_ITSELF: [&[Outcome]; 1] = [&[Outcome::Sw { a: 1, r: 5, v: 5 }]];
+/// A store that its own processor's load misses, a swap that reads itself, a load before its store, store buffering, and a
+/// store that is forwarded.
+static EDGES: [Edge; 5] = [
+    (
+        &[&[Outcome::St { a: 1, v: 1 }, Outcome::Ld { a: 1, r: 0 }]],
+        (1, 0),
+        "Own",
+    ),
+    (&[&[Outcome::Sw { a: 1, r: 5, v: 5 }]], (2, 1), "Read"),
+    (
+        &[&[Outcome::Ld { a: 1, r: 1 }, Outcome::St { a: 1, v: 1 }]],
+        (2, 1),
+        "Read",
+    ),
+    (&STORE_BUFFERING, (1, 2), ""),
+    (
+        &[&[Outcome::St { a: 1, v: 1 }, Outcome::Ld { a: 1, r: 1 }]],
+        (1, 2),
+        "",
+    ),
+];
 
-const LOAD_BEFORE_ITS_STORE: [&[Outcome]; 1] = [&[
-    Outcome::Ld { a: 1, r: 1 },
-    Outcome::St { a: 1, v: 1 },
-]];
-
-const STORE_FORWARDED: [&[Outcome]; 1] = [&[
-    Outcome::St { a: 1, v: 1 },
-    Outcome::Ld { a: 1, r: 1 },
-]];
+fn expect_rule(alloc: Global, edge: &Edge) -> Result<(), Fail> {
+    let (rows, (u, v), rule) = edge;
+    let trace = tso_trace(alloc, rows)?;
+    expect_equal((*u, *v), name_of(base_edge(&trace, *u, *v)), *rule)
+}
 
 #[test]
 fn base_edges_by_hand(rt: HostRuntime) -> Result<(), Fail> {
-    let alloc = rt.alloc();
-    let read = Some(BaseRule::Read);
-    expect_rule(&rt, alloc, &OWN_STORE_MISSED, (1, 0), Some(BaseRule::Own))?;
-    expect_rule(&rt, alloc, &SWAP_READS_ITSELF, (2, 1), read)?;
-    expect_rule(&rt, alloc, &LOAD_BEFORE_ITS_STORE, (2, 1), read)?;
-    expect_rule(&rt, alloc, &STORE_BUFFERING, (1, 2), None)?;
-    expect_rule(&rt, alloc, &STORE_FORWARDED, (1, 2), None)
+    for edge in &EDGES {
+        expect_rule(rt.alloc(), edge)?;
+    }
+    Ok(())
 }
 
 /// Loads of what their own processor wrote, number 1, and of what another did, number 4.
-pub const OWN_STORE_OVERWRITTEN: [&[Outcome]; 2] = [
+pub static OWN_STORE_OVERWRITTEN: [&[Outcome]; 2] = [
     &[
         Outcome::St { a: 1, v: 1 },
         Outcome::Ld { a: 1, r: 1 },
@@ -82,69 +81,91 @@ pub const OWN_STORE_OVERWRITTEN: [&[Outcome]; 2] = [
     &[Outcome::St { a: 1, v: 2 }],
 ];
 
-#[test]
-fn masked_base_words_by_hand(rt: HostRuntime) -> Result<(), Fail> {
-    let alloc = rt.alloc();
-    let trace = trace_of(alloc, Order::Tso, &OWN_STORE_OVERWRITTEN)?;
-    expect_words(&rt, "0", &masked_words_of(alloc, &trace, 0)?, &[0b11110]);
-    expect_words(&rt, "1", &masked_words_of(alloc, &trace, 1)?, &[0b10000]);
-    expect_words(&rt, "2", &masked_words_of(alloc, &trace, 2)?, &[0b1000]);
-    expect_words(&rt, "4", &masked_words_of(alloc, &trace, 4)?, &[0b1000]);
+/// Numbers, and the words of their rows.
+type Words = (usize, &'static [u64]);
+
+/// The words of all its rows but one.
+static MASKED: [Words; 4] = [
+    (0, &[0b11110]),
+    (1, &[0b10000]),
+    (2, &[0b1000]),
+    (4, &[0b1000]),
+];
+
+fn expect_masked(
+    rt: &impl Abort,
+    alloc: Global,
+    trace: &Trace,
+    rows: &[Words],
+) -> Result<(), AllocError> {
+    for (u, words) in rows {
+        expect_words(rt, "masked", &masked_words_of(alloc, trace, *u)?, words);
+    }
     Ok(())
 }
 
+#[test]
+fn masked_base_words_by_hand(rt: HostRuntime) -> Result<(), Fail> {
+    let trace = tso_trace(rt.alloc(), &OWN_STORE_OVERWRITTEN)?;
+    Ok(expect_masked(&rt, rt.alloc(), &trace, &MASKED)?)
+}
+
+/// Numbers and their rows.
+type Row = (usize, &'static [usize]);
+
 /// The base edges of two_swaps_both_first.
-const BASE_ROWS: [&[usize]; 5] = [&[1, 2, 3, 4], &[2], &[], &[4], &[]];
+static BASE_ROWS: [Row; 5] = [(0, &[1, 2, 3, 4]), (1, &[2]), (2, &[]), (3, &[4]), (4, &[])];
+
+static BASE_WORDS: [Words; 3] = [(0, &[0b11110]), (3, &[0b10000]), (4, &[])];
+
+/// What is added over its base edges, and over those and the edges of the first round.
+static OVER_BASE: [Row; 2] = [(1, &[4]), (2, &[])];
+
+static OVER_FIRST_ROUND: [Row; 1] = [(2, &[4])];
 
 fn expect_base_rows(rt: &impl Abort, alloc: Global, trace: &Trace) -> Result<(), AllocError> {
-    for (u, row) in BASE_ROWS.iter().enumerate() {
-        assert_eq!(rt; row_of(alloc, trace, u)?.as_slice(), *row, "row {u}");
+    for (u, row) in &BASE_ROWS {
+        expect_row(rt, "base", &row_of(alloc, trace, *u)?, row);
     }
     Ok(())
 }
 
 fn expect_base_words(rt: &impl Abort, alloc: Global, trace: &Trace) -> Result<(), AllocError> {
-    expect_words(rt, "0", &words_of(alloc, trace, 0)?, &[0b11110]);
-    expect_words(rt, "3", &words_of(alloc, trace, 3)?, &[0b10000]);
-    expect_words(rt, "4", &words_of(alloc, trace, 4)?, &[]);
+    for (u, words) in &BASE_WORDS {
+        expect_words(rt, "base", &words_of(alloc, trace, *u)?, words);
+    }
     Ok(())
 }
 
-/// Rows and a reason over the base edges of two_swaps_both_first.
-fn expect_of_base_graph(
+fn expect_rows_over(
     rt: &impl Abort,
     alloc: Global,
     trace: &Trace,
     graph: &Graph,
+    rows: &[Row],
 ) -> Result<(), AllocError> {
-    expect_row(rt, "1", &edges_of(alloc, trace, graph, 1)?, &[4]);
-    expect_row(rt, "2", &edges_of(alloc, trace, graph, 2)?, &[]);
-    expect_no_reason(rt, &reason_of(alloc, trace, graph, 2, 4)?);
+    for (u, row) in rows {
+        expect_row(rt, "over a graph", &edges_of(alloc, trace, graph, *u)?, row);
+    }
     Ok(())
 }
 
-/// A row and a reason over those and the edges of the first round.
-fn expect_of_first_round(
-    rt: &impl Abort,
-    alloc: Global,
-    trace: &Trace,
-    graph: &Graph,
-) -> Result<(), AllocError> {
-    expect_row(rt, "2", &edges_of(alloc, trace, graph, 2)?, &[4]);
-    let found = reason_of(alloc, trace, graph, 2, 4)?;
-    expect_inferred(rt, &found, InferredRule::SwapAfter, 1, &[1, 4]);
-    Ok(())
+/// Compares the rows over the base edges, and over those and the edges of the first round.
+fn expect_added_rows(rt: &impl Abort, alloc: Global, trace: &Trace) -> Result<(), AllocError> {
+    let mut graph = base_graph(alloc, trace)?;
+    expect_rows_over(rt, alloc, trace, &graph, &OVER_BASE)?;
+    join_first_round(&mut graph);
+    expect_rows_over(rt, alloc, trace, &graph, &OVER_FIRST_ROUND)
+}
+
+fn expect_rows(rt: &impl Abort, alloc: Global, trace: &Trace) -> Result<(), AllocError> {
+    expect_base_rows(rt, alloc, trace)?;
+    expect_base_words(rt, alloc, trace)?;
+    expect_added_rows(rt, alloc, trace)
 }
 
 #[test]
 fn rows_of_two_swaps(rt: HostRuntime) -> Result<(), Fail> {
-    let alloc = rt.alloc();
-    let trace = two_swaps_both_first(alloc)?;
-    expect_base_rows(&rt, alloc, &trace)?;
-    expect_base_words(&rt, alloc, &trace)?;
-    let mut graph = base_graph(alloc, &trace)?;
-    expect_of_base_graph(&rt, alloc, &trace, &graph)?;
-    join_first_round(&mut graph);
-    expect_of_first_round(&rt, alloc, &trace, &graph)?;
-    Ok(())
+    let trace = two_swaps(rt.alloc())?;
+    Ok(expect_rows(&rt, rt.alloc(), &trace)?)
 }

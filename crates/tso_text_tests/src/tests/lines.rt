@@ -5,7 +5,7 @@ use std::test::Fail;
 use traces_for_tests::expect_equal;
 
 /// Texts, their first line and what follows it.
-const LINES: [(&str, &str, &str); 3] = [
+static LINES: [(&str, &str, &str); 3] = [
     ("ld 1 0\nend\n", "ld 1 0", "end\n"),
     ("end\n", "end", ""),
     ("\n\n", "", "\n"),
@@ -22,7 +22,7 @@ fn lines_and_what_follows_them(_rt: HostRuntime) -> Result<(), Fail> {
 }
 
 /// Lines, their first token, and what follows it if a space does.
-const TOKENS: [(&str, &str, Option<&str>); 5] = [
+static TOKENS: [(&str, &str, Option<&str>); 5] = [
     ("ld 1 0", "ld", Some("1 0")),
     ("ld  1", "ld", Some(" 1")),
     (" ld", "", Some("ld")),
@@ -33,21 +33,17 @@ const TOKENS: [(&str, &str, Option<&str>); 5] = [
 #[test]
 fn tokens_and_what_follows_them(_rt: HostRuntime) -> Result<(), Fail> {
     for (line, token, rest) in &TOKENS {
-        let wanted = match rest {
-            Some(rest) => Some(rest.as_bytes()),
-            None => None,
-        };
-        expect_equal(
-            line,
-            next_token(line.as_bytes()),
-            (token.as_bytes(), wanted),
-        )?;
+        let (first, following) = next_token(line.as_bytes());
+        expect_equal(*line, first, token.as_bytes())?;
+        expect_equal(*line, following.is_some(), rest.is_some())?;
+        let wanted = rest.unwrap_or("").as_bytes();
+        expect_equal(*line, following.unwrap_or(b""), wanted)?;
     }
     Ok(())
 }
 
 /// Numbers, and tokens that are none.
-const NUMBERS: [(&str, Option<u64>); 9] = [
+static NUMBERS: [(&str, Option<u64>); 9] = [
     ("0", Some(0)),
     ("70", Some(70)),
     ("18446744073709551615", Some(u64::MAX)),

@@ -47,7 +47,7 @@ impl Rng for ByteWords {
 }
 
 /// Processors, operations and addresses, and whether the shape that they are of is that of 2, 3 and 4.
-const SHAPES: [([u64; 3], Option<bool>); 19] = [
+static SHAPES: [([u64; 3], Option<bool>); 19] = [
     ([1, 1_000, 1], Some(false)),
     ([1, 1_001, 1], None),
     ([16, 62, 256], Some(false)),
@@ -104,7 +104,7 @@ struct Made {
 const WORDS_OF_BARRIERS: u64 = 0x09_5F_2F_3F_0F_08_1F;
 
 /// The first is of the words 7, 16, 61, 15 and then 9.
-const MADE: [Made; 3] = [
+static MADE: [Made; 3] = [
     Made {
         words: 0x09_0F_3D_10_07,
         order: None,

@@ -21,7 +21,7 @@ const PSO_FIRST: (Order, Version) = (Order::Pso, Version::Two);
 
 const FIRST: &str = "first, init 1 7, init 3 7, init 255 18446744073709551615, proc, proc";
 
-const CASES: [Case; 20] = [
+static CASES: [Case; 20] = [
     ("", TSO, (1, 0), false),
     (
         "proc, st 255 18446744073709551615, mb, proc, ld 0, sw 1 0 1",
@@ -125,16 +125,26 @@ fn are_same(one: &Program, other: &Program) -> [bool; 2] {
     [one.is_same(other), other.is_same(one)]
 }
 
+/// Compares a program with its case and with `COMPARED`.
+fn expect_program(alloc: Global, program: &Program, case: &Case) -> Result<(), Fail> {
+    let (line, _, _, same) = *case;
+    expect_equal(line, is_as_written(alloc, program, case)?, true)?;
+    let compared = program_of(alloc, COMPARED)?;
+    expect_equal(line, are_same(program, &compared), [same; 2])
+}
+
+/// Compares the copy of a program with its case and with the program.
+fn expect_copy(alloc: Global, program: &Program, case: &Case) -> Result<(), Fail> {
+    let copy = program.copy()?;
+    expect_equal(case.0, is_as_written(alloc, &copy, case)?, true)?;
+    expect_equal(case.0, are_same(program, &copy), [true; 2])
+}
+
 /// Compares a program and its copy with their case.
 fn expect_case(alloc: Global, case: &Case) -> Result<(), Fail> {
-    let (line, _, _, same) = *case;
-    let program = program_of(alloc, line)?;
-    expect_equal(line, is_as_written(alloc, &program, case)?, true)?;
-    let compared = program_of(alloc, COMPARED)?;
-    expect_equal(line, are_same(&program, &compared), [same; 2])?;
-    let copy = program.copy()?;
-    expect_equal(line, is_as_written(alloc, &copy, case)?, true)?;
-    expect_equal(line, are_same(&program, &copy), [true; 2])
+    let program = program_of(alloc, case.0)?;
+    expect_program(alloc, &program, case)?;
+    expect_copy(alloc, &program, case)
 }
 
 #[test]

@@ -8,7 +8,7 @@ use traces_for_tests::expect_equal;
 use tso_ops::{Op, Order, Setting, Tally, ValueFault};
 
 /// Entries, and the answer to each after those before it.
-const ENTRIES: [(u16, u64, Result<(), ValueFault>); 9] = [
+static ENTRIES: [(u16, u64, Result<(), ValueFault>); 9] = [
     (1, 0, Err(ValueFault::ZeroValue)),
     (256, 0, Err(ValueFault::AddressRange)),
     (1, 7, Ok(())),
@@ -39,7 +39,7 @@ fn setting_of_entries(alloc: Global) -> Result<Setting, Fail> {
 }
 
 /// Operations, and what a tally answers to each in turn.
-const ADMITTED: [(Op, Result<(), ValueFault>); 5] = [
+static ADMITTED: [(Op, Result<(), ValueFault>); 5] = [
     (Op::St { a: 1, v: 4 }, Ok(())),
     (Op::St { a: 1, v: 4 }, Err(ValueFault::RepeatedValue)),
     (Op::Sw { a: 256, v: 5 }, Err(ValueFault::AddressRange)),
@@ -48,7 +48,7 @@ const ADMITTED: [(Op, Result<(), ValueFault>); 5] = [
 ];
 
 /// Operations, and what a tally that knows the entries answers to each in turn.
-const ADMITTED_AFTER_ENTRIES: [(Op, Result<(), ValueFault>); 4] = [
+static ADMITTED_AFTER_ENTRIES: [(Op, Result<(), ValueFault>); 4] = [
     (Op::St { a: 0, v: 7 }, Err(ValueFault::RepeatedValue)),
     (Op::Sw { a: 1, v: 7 }, Err(ValueFault::RepeatedValue)),
     (Op::St { a: 1, v: 8 }, Ok(())),

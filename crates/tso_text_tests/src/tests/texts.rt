@@ -57,12 +57,17 @@ type Long = (
     &'static str,
 );
 
+fn expect_long(alloc: Global, long: &Long) -> Result<(), Fail> {
+    let (kind, first, line, count, last, bytes, expected) = *long;
+    let text = repeated(alloc, first, line, count, last)?;
+    expect_equal(line, text.len(), bytes)?;
+    expect_text(alloc, kind, text.as_str(), expected)
+}
+
 #[test]
 fn long_texts(rt: HostRuntime) -> Result<(), Fail> {
-    for (kind, first, line, count, last, bytes, expected) in &LONG {
-        let text = repeated(rt.alloc(), first, line, *count, last)?;
-        expect_equal((first, line, last), text.len(), *bytes)?;
-        expect_text(rt.alloc(), *kind, &text, expected)?;
+    for long in &LONG {
+        expect_long(rt.alloc(), long)?;
     }
     Ok(())
 }
@@ -121,19 +126,23 @@ static PREAMBLES: [(&str, &str); 44] = [
     ("1\nmodel pso\nstbar\nend\n", "BeforeProc line 3"),
 ];
 
-/// The answer to a text that begins with this word after `tso`.
-fn preamble_back(alloc: Global, kind: Kind, word: &str, rest: &str) -> Result<String, AllocError> {
-    let text = format!(in alloc; "tso {word} {rest}")?;
-    text_back(alloc, kind, &text)
+/// Compares the answer to a text that begins so with its fault.
+fn expect_preamble(
+    alloc: Global,
+    (kind, first): (Kind, &str),
+    rest: &str,
+    fault: &str,
+) -> Result<(), Fail> {
+    let text = repeated(alloc, first, "", 0, rest)?;
+    let back = text_back(alloc, kind, text.as_str())?;
+    expect_equal(rest, back.as_str(), fault)
 }
 
 #[test]
 fn preambles(rt: HostRuntime) -> Result<(), Fail> {
     for (rest, fault) in &PREAMBLES {
-        let of_trace = preamble_back(rt.alloc(), Kind::Trace, "trace", rest)?;
-        expect_equal(rest, of_trace.as_str(), *fault)?;
-        let of_program = preamble_back(rt.alloc(), Kind::Program, "program", rest)?;
-        expect_equal(rest, of_program.as_str(), *fault)?;
+        expect_preamble(rt.alloc(), (Kind::Trace, "tso trace "), rest, fault)?;
+        expect_preamble(rt.alloc(), (Kind::Program, "tso program "), rest, fault)?;
     }
     Ok(())
 }
@@ -156,13 +165,17 @@ static REFUSED_ALIKE: [&str; 14] = [
     "1 1 2 Read\n1 1 2 Loadop\n",
 ];
 
+fn expect_refused_alike(alloc: Global, text: &str) -> Result<(), Fail> {
+    let of_certificate = text_back(alloc, Kind::Certificate, text)?;
+    let of_evidence = text_back(alloc, Kind::Evidence, text)?;
+    expect_equal(text, of_evidence.as_str(), of_certificate.as_str())?;
+    expect_equal(text, of_evidence.as_str() == text, false)
+}
+
 #[test]
 fn certificates_and_evidence_refused_alike(rt: HostRuntime) -> Result<(), Fail> {
     for text in &REFUSED_ALIKE {
-        let of_certificate = text_back(rt.alloc(), Kind::Certificate, text)?;
-        let of_evidence = text_back(rt.alloc(), Kind::Evidence, text)?;
-        expect_equal(text, of_evidence.as_str(), of_certificate.as_str())?;
-        expect_equal(text, of_evidence.as_str() == *text, false)?;
+        expect_refused_alike(rt.alloc(), text)?;
     }
     Ok(())
 }

@@ -26,34 +26,49 @@ enum Fact {
     /// Whether two numbers have one address, the first is earlier, a barrier and an STBAR stand between them, and as stores
     /// they are kept in order.
     Pair(usize, usize, [bool; 5]),
+    /// The words of a row of bits.
+    Words(Row, &'static [u64]),
+}
+
+/// A row of bits.
+#[derive(Clone, Copy)]
+enum Row {
     /// The loads of an address.
-    Loads(u16, &'static [u64]),
+    Loads(u16),
     /// The stores to an address.
-    Stores(u16, &'static [u64]),
-    /// All stores, and the loads of swaps.
-    StoresAndSwaps(&'static [u64], &'static [u64]),
+    Stores(u16),
+    /// All stores.
+    AllStores,
+    /// The loads of swaps.
+    SwapLoads,
     /// The events of a processor.
-    Processor(usize, &'static [u64]),
+    Processor(usize),
     /// The events after so many barriers.
-    Barriers(usize, &'static [u64]),
+    Barriers(usize),
     /// The events after so many STBARs.
-    Stbars(usize, &'static [u64]),
+    Stbars(usize),
     /// The loads that read a number.
-    Readers(usize, &'static [u64]),
+    Readers(usize),
+}
+
+/// The words of a row of bits.
+fn words_of(trace: &Trace, row: Row) -> &[u64] {
+    match row {
+        Row::Loads(a) => trace.load_words(a),
+        Row::Stores(a) => trace.store_words(a),
+        Row::AllStores => trace.all_store_words(),
+        Row::SwapLoads => trace.swap_load_words(),
+        Row::Processor(p) => trace.processor_words(p),
+        Row::Barriers(bars) => trace.barrier_words(bars),
+        Row::Stbars(stbars) => trace.stbar_words(stbars),
+        Row::Readers(s) => trace.reader_words(s),
+    }
 }
 
 /// Whether the rows of bits are so, or what else is said.
 fn holds(trace: &Trace, fact: Fact) -> bool {
     match fact {
-        Fact::Loads(a, words) => trace.load_words(a) == words,
-        Fact::Stores(a, words) => trace.store_words(a) == words,
-        Fact::StoresAndSwaps(stores, swaps) => {
-            trace.all_store_words() == stores && trace.swap_load_words() == swaps
-        }
-        Fact::Processor(p, words) => trace.processor_words(p) == words,
-        Fact::Barriers(bars, words) => trace.barrier_words(bars) == words,
-        Fact::Stbars(stbars, words) => trace.stbar_words(stbars) == words,
-        Fact::Readers(s, words) => trace.reader_words(s) == words,
+        Fact::Words(row, words) => words_of(trace, row) == words,
         Fact::Setting(order, version, first) => {
             trace.order() == order && trace.version() == version && trace.first(1) == first
         }
@@ -102,7 +117,7 @@ struct Example {
     facts: &'static [Fact],
 }
 
-const EXAMPLES: [Example; 11] = [
+static EXAMPLES: [Example; 11] = [
     Example {
         name: "nothing given",
         line: "proc",
@@ -213,11 +228,11 @@ const EXAMPLES: [Example; 11] = [
             Fact::Source(8, Some(Source::Store(9))),
             Fact::Source(9, None),
             Fact::Source(10, None),
-            Fact::Readers(0, &[1 << 4]),
-            Fact::Readers(1, &[1 << 5]),
-            Fact::Readers(3, &[1 << 2]),
-            Fact::Readers(9, &[1 << 8]),
-            Fact::Readers(10, &[]),
+            Fact::Words(Row::Readers(0), &[1 << 4]),
+            Fact::Words(Row::Readers(1), &[1 << 5]),
+            Fact::Words(Row::Readers(3), &[1 << 2]),
+            Fact::Words(Row::Readers(9), &[1 << 8]),
+            Fact::Words(Row::Readers(10), &[]),
         ],
     },
     Example {
@@ -231,27 +246,28 @@ const EXAMPLES: [Example; 11] = [
             Fact::Source(5, Some(Source::Init)),
             Fact::Source(6, None),
             Fact::Source(7, Some(Source::Store(6))),
-            Fact::Readers(0, &[0b101010]),
+            Fact::Words(Row::Readers(0), &[0b101010]),
         ],
     },
     Example {
         name: "rows of bits of two words",
         line: "proc, ld 0 0, times 66, proc, sw 1 0 7, mb, st 1 8",
         facts: &[
-            Fact::Loads(0, &[!1, 0b111]),
-            Fact::Loads(1, &[0, 0b1000]),
-            Fact::Loads(256, &[]),
-            Fact::Stores(0, &[]),
-            Fact::Stores(1, &[0, 0b110000]),
-            Fact::StoresAndSwaps(&[0, 0b110000], &[0, 0b1000]),
-            Fact::Processor(0, &[!1, 0b111]),
-            Fact::Processor(1, &[0, 0b111000]),
-            Fact::Processor(2, &[]),
-            Fact::Barriers(0, &[!1, 0b11111]),
-            Fact::Barriers(1, &[0, 0b100000]),
-            Fact::Barriers(2, &[]),
-            Fact::Readers(0, &[!1, 0b1111]),
-            Fact::Readers(68, &[]),
+            Fact::Words(Row::Loads(0), &[!1, 0b111]),
+            Fact::Words(Row::Loads(1), &[0, 0b1000]),
+            Fact::Words(Row::Loads(256), &[]),
+            Fact::Words(Row::Stores(0), &[]),
+            Fact::Words(Row::Stores(1), &[0, 0b110000]),
+            Fact::Words(Row::AllStores, &[0, 0b110000]),
+            Fact::Words(Row::SwapLoads, &[0, 0b1000]),
+            Fact::Words(Row::Processor(0), &[!1, 0b111]),
+            Fact::Words(Row::Processor(1), &[0, 0b111000]),
+            Fact::Words(Row::Processor(2), &[]),
+            Fact::Words(Row::Barriers(0), &[!1, 0b11111]),
+            Fact::Words(Row::Barriers(1), &[0, 0b100000]),
+            Fact::Words(Row::Barriers(2), &[]),
+            Fact::Words(Row::Readers(0), &[!1, 0b1111]),
+            Fact::Words(Row::Readers(68), &[]),
         ],
     },
     Example {
@@ -335,10 +351,10 @@ const EXAMPLES: [Example; 11] = [
                     stbars: 1,
                 }),
             ),
-            Fact::Stbars(0, &[0b10]),
-            Fact::Stbars(1, &[0b100000]),
-            Fact::Stbars(2, &[0b11100]),
-            Fact::Stbars(3, &[]),
+            Fact::Words(Row::Stbars(0), &[0b10]),
+            Fact::Words(Row::Stbars(1), &[0b100000]),
+            Fact::Words(Row::Stbars(2), &[0b11100]),
+            Fact::Words(Row::Stbars(3), &[]),
             Fact::Pair(1, 3, [false, true, true, true, false]),
             Fact::Pair(3, 4, [true, true, false, false, true]),
         ],

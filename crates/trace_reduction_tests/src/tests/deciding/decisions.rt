@@ -2,7 +2,10 @@
 
 use super::{decided, expect_decided, limits};
 use evidence_for_tests::{BUFFERING, THIRTY_EVENTS, TWELVE_EVENTS};
+use std::alloc::Global;
+use std::sync::Wait;
 use std::test::Fail;
+use std::thread::Threads;
 use trace_decisions::Answer;
 use traces_for_tests::expect_equal;
 
@@ -38,8 +41,8 @@ static CASES: [(&str, Answer); 10] = [
 
 #[test]
 fn traces_are_decided(rt: HostRuntime) -> Result<(), Fail> {
-    for case in CASES {
-        expect_decided(&rt, rt.alloc(), 1, case)?;
+    for case in &CASES {
+        expect_decided(&rt, rt.alloc(), 1, *case)?;
     }
     Ok(())
 }
@@ -50,42 +53,47 @@ fn workers_decide_alike(rt: HostRuntime) -> Result<(), Fail> {
     expect_decided(&rt, rt.alloc(), 2, (BUFFERING, Answer::Consistent))
 }
 
-/// The effort is how many cases are looked at: a refutation of the twelve events takes two, and the step back to the first.
-#[test]
-fn effort_ends(rt: HostRuntime) -> Result<(), Fail> {
-    for (effort, answer, line) in [
-        (0, Answer::Undecided, "UNDECIDED 0\n"),
-        (1, Answer::Undecided, "UNDECIDED 1\n"),
-    ] {
-        let mut written = Vec::new(rt.alloc());
-        let mut reader = TWELVE_EVENTS.as_bytes();
-        let said = decided(
-            &rt,
-            rt.alloc(),
-            &mut reader,
-            &mut written,
-            limits(1, effort),
-        );
-        expect_equal(effort, said, Ok(answer))?;
-        let mut expected = String::from_str(
-            rt.alloc(),
-            "TSO DECISION 1\nprocessors 4 events 12\n",
-        )?;
-        expected.push_str(line)?;
-        expect_equal(effort, written.as_slice(), expected.as_bytes())?;
-    }
-    Ok(())
+/// Traces and how many steps the search does, and what is answered and written.
+static TEXTS: [((&str, u64), (Answer, &str)); 3] = [
+    (
+        (TWELVE_EVENTS, 0),
+        (
+            Answer::Undecided,
+            "TSO DECISION 1\nprocessors 4 events 12\nUNDECIDED 0\n",
+        ),
+    ),
+    (
+        (TWELVE_EVENTS, 1),
+        (
+            Answer::Undecided,
+            "TSO DECISION 1\nprocessors 4 events 12\nUNDECIDED 1\n",
+        ),
+    ),
+    (
+        ("tso trace 1\nproc\nld 1\nend\n", 100),
+        (Answer::Refused, "REFUSED BadLine line 3\n"),
+    ),
+];
+
+/// Compares what is answered and written where the search does so many steps.
+fn expect_text<H: Threads + Wait>(
+    rt: &H,
+    alloc: Global,
+    (trace, effort): (&str, u64),
+    (answer, text): (Answer, &str),
+) -> Result<(), Fail> {
+    let mut written = Vec::new(alloc);
+    let mut reader = trace.as_bytes();
+    let said = decided(rt, alloc, &mut reader, &mut written, limits(1, effort));
+    expect_equal(effort, said, Ok(answer))?;
+    expect_equal(effort, written.as_slice(), text.as_bytes())
 }
 
+/// The effort is how many steps the search does: a refutation of the twelve events takes two, and the step back to the first.
 #[test]
-fn text_is_refused(rt: HostRuntime) -> Result<(), Fail> {
-    let mut written = Vec::new(rt.alloc());
-    let mut reader = "tso trace 1\nproc\nld 1\nend\n".as_bytes();
-    let said = decided(&rt, rt.alloc(), &mut reader, &mut written, limits(1, 100));
-    expect_equal("said", said, Ok(Answer::Refused))?;
-    expect_equal(
-        "line",
-        written.as_slice(),
-        "REFUSED BadLine line 3\n".as_bytes(),
-    )
+fn effort_ends(rt: HostRuntime) -> Result<(), Fail> {
+    for (trace, said) in &TEXTS {
+        expect_text(&rt, rt.alloc(), *trace, *said)?;
+    }
+    Ok(())
 }

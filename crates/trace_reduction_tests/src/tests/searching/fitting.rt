@@ -4,7 +4,7 @@ use super::judges::Needing;
 use super::known_log;
 use super::logs::all_known;
 use log_search::{fit_trace, is_within_limits};
-use log_selections::Kept;
+use log_selections::{Kept, KnownLog};
 use std::alloc::{AllocError, Global};
 use std::fmt::Write;
 use std::test::Fail;
@@ -80,26 +80,34 @@ fn count(kept: &[Vec<Kept>]) -> usize {
     count
 }
 
+/// Leaves out operations, so that a trace can have the others: how many are left, or 0 where the judge accuses none that fit.
+fn count_fitting(
+    alloc: Global,
+    known: &KnownLog,
+    kept: &[Vec<Kept>],
+    needed: &'static [(usize, usize)],
+) -> Result<usize, Fail> {
+    let mut judge = Needing { needed, asked: 0 };
+    let Some(fewer) = fit_trace(alloc, known, kept, &mut judge)? else {
+        return Ok(0);
+    };
+    expect_equal(needed, is_within_limits(alloc, known, &fewer)?, true)?;
+    Ok(count(&fewer))
+}
+
+fn expect_fitting(alloc: Global, case: &Case) -> Result<(), Fail> {
+    let (name, size, needed, wanted) = *case;
+    let known = known_log(alloc, stores(alloc, size)?.as_str())?;
+    let kept = all_known(alloc, &known)?;
+    expect_equal(name, is_within_limits(alloc, &known, &kept)?, false)?;
+    let left = count_fitting(alloc, &known, &kept, needed)?;
+    expect_equal(name, left, wanted)
+}
+
 #[test]
 fn operations_past_the_limits(rt: HostRuntime) -> Result<(), Fail> {
-    let alloc = rt.alloc();
-    for (name, size, needed, wanted) in &CASES {
-        let known = known_log(alloc, stores(alloc, *size)?.as_str())?;
-        let kept = all_known(alloc, &known)?;
-        expect_equal(*name, is_within_limits(alloc, &known, &kept)?, false)?;
-        let mut judge = Needing {
-            needed: *needed,
-            asked: 0,
-        };
-        let fewer = fit_trace(alloc, &known, &kept, &mut judge)?;
-        let left = match &fewer {
-            Some(kept) => count(kept),
-            None => 0,
-        };
-        expect_equal(*name, left, *wanted)?;
-        if let Some(kept) = &fewer {
-            expect_equal(*name, is_within_limits(alloc, &known, kept)?, true)?;
-        }
+    for case in &CASES {
+        expect_fitting(rt.alloc(), case)?;
     }
     Ok(())
 }

@@ -4,7 +4,6 @@ use super::entries::{Entry, address_of, entries_of, lists_of, source_of, without
 use log_selections::{Kept, KnownLog};
 use log_text::{Log, LogOperation, LoggedOperation};
 use std::alloc::Global;
-use std::collections::HashSet;
 use traces_for_tests::Draws;
 use tso_ops::{Order, OutOfMemory, Outcome, Part};
 
@@ -85,56 +84,66 @@ fn known_list(
 ) -> Result<Vec<Kept>, OutOfMemory> {
     let mut kept = Vec::new(alloc);
     for (index, (logged, number)) in list.iter().zip(numbers).enumerate() {
-        let is_known = known.sources().get(*number).copied().flatten().is_some();
-        let part = match logged.operation {
-            LogOperation::Ld { .. } if !is_known => continue,
-            LogOperation::Sw { .. } if !is_known => Part::SwapStore,
-            _ => Part::Whole,
-        };
-        kept.push(Kept { index, part })?;
+        if let Some(part) = known_part(known, logged.operation, *number) {
+            kept.push(Kept { index, part })?;
+        }
     }
     Ok(kept)
 }
 
-/// What is kept without the loads of a proposal, and without others of their processors and sources.
+/// What is kept of an operation, of which this is the number.
+fn known_part(known: &KnownLog, operation: LogOperation, number: usize) -> Option<Part> {
+    let is_known = known.sources().get(number).copied().flatten().is_some();
+    match operation {
+        LogOperation::Ld { .. } if !is_known => None,
+        LogOperation::Sw { .. } if !is_known => Some(Part::SwapStore),
+        _ => Some(Part::Whole),
+    }
+}
+
+/// The place of a load: its processor, the number of its source, and its address where it read the first value.
+type Place = (usize, usize, u64);
+
+/// What is known of a log without the loads at these places.
 pub(super) fn without_loads_of(
     alloc: Global,
     known: &KnownLog,
-    kept: &[Vec<Kept>],
-    proposal: &[Vec<Kept>],
+    places: &[Place],
 ) -> Result<Vec<Vec<Kept>>, OutOfMemory> {
-    let places = places_of_sources(alloc, known, proposal)?;
+    let kept = all_known(alloc, known)?;
     let mut left = Vec::new(alloc);
-    for entry in &entries_of(alloc, kept)? {
-        let is_left_out = match place_of_source(known, *entry) {
-            Some(place) => places.contains(&place),
-            None => false,
-        };
-        if !is_left_out {
-            left.push(*entry)?;
-        } else if let Some(rest) = without_load(known, *entry) {
+    for entry in &entries_of(alloc, &kept)? {
+        if let Some(rest) = left_of(known, *entry, places) {
             left.push(rest)?;
         }
     }
     lists_of(alloc, kept.len(), &left)
 }
 
-fn places_of_sources(
-    alloc: Global,
-    known: &KnownLog,
-    kept: &[Vec<Kept>],
-) -> Result<HashSet<(usize, usize, u64)>, OutOfMemory> {
-    let mut places = HashSet::new(alloc);
-    for entry in &entries_of(alloc, kept)? {
-        if let Some(place) = place_of_source(known, *entry) {
-            places.insert(place)?;
-        }
+/// What is left of an operation without the loads at these places.
+fn left_of(known: &KnownLog, entry: Entry, places: &[Place]) -> Option<Entry> {
+    match place_of_source(known, entry) {
+        Some(place) if places.contains(&place) => without_load(known, entry),
+        _ => Some(entry),
     }
-    Ok(places)
 }
 
-/// The processor of a load, the number of its source, and its address where it read the first value.
-fn place_of_source(known: &KnownLog, entry: Entry) -> Option<(usize, usize, u64)> {
+/// Adds the places of the loads of a proposal.
+pub(super) fn push_places(
+    alloc: Global,
+    places: &mut Vec<Place>,
+    known: &KnownLog,
+    kept: &[Vec<Kept>],
+) -> Result<(), OutOfMemory> {
+    for entry in &entries_of(alloc, kept)? {
+        if let Some(place) = place_of_source(known, *entry) {
+            places.push(place)?;
+        }
+    }
+    Ok(())
+}
+
+fn place_of_source(known: &KnownLog, entry: Entry) -> Option<Place> {
     let source = source_of(known, entry)?;
     let a = if source == 0 {
         address_of(known, entry)?

@@ -3,7 +3,8 @@
 use super::judges::{Conditional, Needing};
 use super::logs::all_known;
 use super::{known_log, push_kept};
-use log_search::reduce;
+use log_search::{Judge, reduce};
+use std::alloc::Global;
 use std::test::Fail;
 use traces_for_tests::expect_equal;
 
@@ -12,7 +13,7 @@ const TEXT: &str =
     "0 st 1 1\n0 mb\n0 st 2 2\n0 ld 3 3\n1 st 3 3\n1 mb\n1 ld 1 1\n1 ld 2 2\n1 sw 1 1 4\n";
 
 /// Names of cases, the operations that the judge needs, and what is left.
-const CASES: [(&str, &[(usize, usize)], &str); 5] = [
+static CASES: [(&str, &[(usize, usize)], &str); 5] = [
     ("nothing is needed", &[], "\n"),
     ("a store", &[(0, 2)], "0.2 \n"),
     ("a load, which needs its source", &[(1, 2)], "0.0 1.2 \n"),
@@ -20,26 +21,35 @@ const CASES: [(&str, &[(usize, usize)], &str); 5] = [
     ("a swap, of which the store is enough", &[(1, 4)], "1.4s \n"),
 ];
 
+/// Compares what is left of the log while a judge accuses it.
+fn expect_reduced<J: Judge>(
+    alloc: Global,
+    judge: &mut J,
+    name: &str,
+    wanted: &str,
+) -> Result<(), Fail> {
+    let known = known_log(alloc, TEXT)?;
+    let reduced = reduce(alloc, &known, all_known(alloc, &known)?, judge)?;
+    let mut line = String::new(alloc);
+    push_kept(&mut line, &reduced)?;
+    expect_equal(name, line.as_str(), wanted)
+}
+
 #[test]
 fn reduced_operations(rt: HostRuntime) -> Result<(), Fail> {
-    let alloc = rt.alloc();
-    let known = known_log(alloc, TEXT)?;
     for (name, needed, wanted) in &CASES {
         let mut judge = Needing {
             needed: *needed,
             asked: 0,
         };
-        let reduced = reduce(alloc, &known, all_known(alloc, &known)?, &mut judge)?;
-        let mut line = String::new(alloc);
-        push_kept(&mut line, &reduced)?;
-        expect_equal(*name, line.as_str(), *wanted)?;
+        expect_reduced(rt.alloc(), &mut judge, name, wanted)?;
         expect_equal(*name, judge.asked < 60, true)?;
     }
     Ok(())
 }
 
 /// Names of cases, the operations of a `Conditional`, and what is left.
-const CONDITIONAL: [(&str, [(usize, usize); 3], &str); 3] = [
+static CONDITIONAL: [(&str, [(usize, usize); 3], &str); 3] = [
     (
         "a store that is needed as long as a later one is there",
         [(1, 0), (0, 0), (0, 2)],
@@ -59,16 +69,11 @@ const CONDITIONAL: [(&str, [(usize, usize); 3], &str); 3] = [
 
 #[test]
 fn operations_that_others_need(rt: HostRuntime) -> Result<(), Fail> {
-    let alloc = rt.alloc();
-    let known = known_log(alloc, TEXT)?;
     for (name, operations, wanted) in &CONDITIONAL {
         let mut judge = Conditional {
             operations: *operations,
         };
-        let reduced = reduce(alloc, &known, all_known(alloc, &known)?, &mut judge)?;
-        let mut line = String::new(alloc);
-        push_kept(&mut line, &reduced)?;
-        expect_equal(*name, line.as_str(), *wanted)?;
+        expect_reduced(rt.alloc(), &mut judge, name, wanted)?;
     }
     Ok(())
 }

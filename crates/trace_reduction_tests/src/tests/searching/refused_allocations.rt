@@ -2,12 +2,11 @@
 //!
 //! The call that meets it answers OutOfMemory, and the next call the ordinary answer.
 
-use super::EFFORT;
 use super::judges::Needing;
-use log_search::{Found, Search, reduce};
+use super::push_all;
+use log_search::reduce;
 use log_selections::{Kept, KnownLog};
 use log_text::read_log;
-use progress_meters::NoMeter;
 use std::alloc::Global;
 use std::test::Fail;
 use traces_for_tests::expect_equal;
@@ -17,46 +16,39 @@ const TEXT: &[u8] = b"0 st 1 1\n0 st 2 2\n1 ld 2 2\n1 ld 1 0\n";
 
 /// What is known of the log. It answers OutOfMemory also where the text is none.
 fn known_log(alloc: Global) -> Result<KnownLog, OutOfMemory> {
-    match read_log(alloc, TEXT) {
+    match read_log(alloc, TEXT, false) {
         Ok(log) => KnownLog::new(alloc, log),
         Err(_) => Err(OutOfMemory),
     }
 }
 
-/// What is kept that is found first, if anything is.
-fn first_found(alloc: Global, known: &KnownLog) -> Result<Option<Vec<Vec<Kept>>>, OutOfMemory> {
-    match Search::new(alloc, known, EFFORT)?.next(alloc, &NoMeter)? {
-        Found::Proposal(kept) => Ok(Some(kept)),
-        Found::End | Found::BudgetEnd => Ok(None),
-    }
-}
-
-/// How many operations of each processor are found first.
+/// How many operations of each processor are found.
 fn found_counts(alloc: Global) -> Result<[usize; 2], OutOfMemory> {
     let known = known_log(alloc)?;
-    Ok(match first_found(alloc, &known)? {
-        Some(kept) => counts_of(&kept),
-        None => [0, 0],
-    })
+    let mut all = Vec::new(alloc);
+    push_all(alloc, &known, &mut all)?;
+    Ok(counts_of(&all.pop().unwrap_or(Vec::new(alloc))))
 }
 
-/// How many are left of what is found first, of which a load of the first value is needed.
+/// How many are left of what is found, of which a load of the first value is needed.
 fn reduced_counts(alloc: Global) -> Result<[usize; 2], OutOfMemory> {
     let known = known_log(alloc)?;
+    let mut all = Vec::new(alloc);
+    push_all(alloc, &known, &mut all)?;
     let mut judge = Needing {
         needed: &[(1, 1)],
         asked: 0,
     };
-    Ok(match first_found(alloc, &known)? {
-        Some(kept) => counts_of(&reduce(alloc, &known, kept, &mut judge)?),
-        None => [0, 0],
-    })
+    let found = all.pop().unwrap_or(Vec::new(alloc));
+    Ok(counts_of(&reduce(alloc, &known, found, &mut judge)?))
 }
 
 /// How many operations processors 0 and 1 have here.
 fn counts_of(kept: &[Vec<Kept>]) -> [usize; 2] {
-    let count = |p: usize| kept.get(p).map_or(0, |row| row.len());
-    [count(0), count(1)]
+    match kept {
+        [first, second] => [first.len(), second.len()],
+        _ => [0, 0],
+    }
 }
 
 #[test]

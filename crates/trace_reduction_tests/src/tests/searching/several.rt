@@ -5,7 +5,7 @@ use std::test::Fail;
 use traces_for_tests::expect_equal;
 
 /// Names of logs, their texts and how many selections are proposed.
-const SEVERAL: [(&str, &str, usize); 3] = [
+static SEVERAL: [(&str, &str, usize); 3] = [
     (
         "two violations side by side",
         "0 st 1 1\n1 ld 1 1\n2 st 2 2\n3 ld 2 2\n1 ld 1 0\n3 ld 2 0\n",

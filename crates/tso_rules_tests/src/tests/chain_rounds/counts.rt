@@ -2,8 +2,10 @@
 
 use super::counted;
 use chain_rules::RoundCount;
+use std::alloc::Global;
 use std::test::Fail;
-use traces_for_tests::{expect_equal, store_buffering, two_swaps_both_first};
+use traces_for_tests::{STORE_BUFFERING, expect_equal, trace_of};
+use tso_ops::{Order, Outcome};
 
 /// The first round adds an edge from each load to the other swap's store. Both loads lead to more then, so that the second
 /// round looks at their rows and at those of the stores of their swaps, and closes a cycle.
@@ -21,12 +23,29 @@ const OF_STORE_BUFFERING: RoundCount = RoundCount {
     is_cyclic: false,
 };
 
+/// What processors did, and the counts.
+static COUNTS: [(&[&[Outcome]], RoundCount); 2] = [
+    (
+        &[
+            &[Outcome::Sw { a: 1, r: 0, v: 1 }],
+            &[Outcome::Sw { a: 1, r: 0, v: 2 }],
+        ],
+        OF_TWO_SWAPS,
+    ),
+    (&STORE_BUFFERING, OF_STORE_BUFFERING),
+];
+
+/// Compares the counts of a trace, which has no unwritten load.
+fn expect_counts(alloc: Global, rows: &[&[Outcome]], wanted: RoundCount) -> Result<(), Fail> {
+    let trace = trace_of(alloc, Order::Tso, rows)?;
+    let found = counted(alloc, &trace)?;
+    expect_equal(rows, found, Some(wanted))
+}
+
 #[test]
 fn counts_of_small_traces(rt: HostRuntime) -> Result<(), Fail> {
-    let alloc = rt.alloc();
-    let swaps = two_swaps_both_first(alloc)?;
-    expect_equal("swaps", counted(alloc, &swaps)?, Some(OF_TWO_SWAPS))?;
-    let buffering = store_buffering(alloc)?;
-    let found = counted(alloc, &buffering)?;
-    expect_equal("buffering", found, Some(OF_STORE_BUFFERING))
+    for (rows, wanted) in &COUNTS {
+        expect_counts(rt.alloc(), rows, *wanted)?;
+    }
+    Ok(())
 }

@@ -102,25 +102,56 @@ fn refused_allocations_of_counted_rounds(rt: HostRuntime) -> Result<(), Fail> {
     Ok(())
 }
 
+/// The tables of a trace, and what its base edges lead to, each call of its own.
+fn made(alloc: Global, trace: &Trace) -> Result<(RuleTables, Reach), OutOfMemory>
+    ensures chains { IfOk result (λ made. AreChainsOf trace.now made.1.chains) }
+    ensures tables { IfOk result (λ made. AreTablesOf trace.now made.1.chains made.0) }
+{
+    let chains = chains(alloc, trace)?;
+    let tables = tables(alloc, trace, &chains)?;
+    base(alloc, trace, chains, tables)
+}
+
+/// Compares all rows.
+fn expect_all(alloc: Global, trace: &Trace) -> Result<(), Fail> {
+    let numbers = all(alloc, trace)?;
+    expect_equal("all", numbers.as_slice(), &[1, 2, 3, 4])
+}
+
+/// Compares a row.
+fn expect_row(alloc: Global, input: RowTables<'_>) -> Result<(), Fail>
+    requires chains { AreChainsOf input.trace.now input.reach.now.chains }
+    requires tables { AreTablesOf input.trace.now input.reach.now.chains input.tables.now }
+{
+    let row = row(alloc, input, 1)?;
+    expect_equal("from 1", row.as_slice(), &[4])
+}
+
+/// Compares the rows that change by an edge from 1 to 4.
+fn expect_changed(alloc: Global, trace: &Trace, reach: &mut Reach) -> Result<(), Fail> {
+    join(reach, 1, 4);
+    let numbers = changed(alloc, trace, reach)?;
+    expect_equal("changed", numbers.as_slice(), &[1, 2])
+}
+
+/// Compares what the rounds by chains read of a trace.
+fn expect_rounds(alloc: Global, trace: &Trace) -> Result<(), Fail> {
+    let (tables, mut reach) = made(alloc, trace)?;
+    expect_equal("a store's chain", chain_of(reach.chains(), 4), 4)?;
+    expect_row(
+        alloc,
+        RowTables {
+            trace,
+            tables: &tables,
+            reach: &reach,
+        },
+    )?;
+    expect_changed(alloc, trace, &mut reach)
+}
+
 #[test]
 fn refused_allocations_of_rounds_by_chains(rt: HostRuntime) -> Result<(), Fail> {
-    let alloc = rt.alloc();
-    let trace = trace(alloc)?;
-    let chains = chains(alloc, &trace)?;
-    expect_equal("a store's chain", chain_of(&chains, 4), 4)?;
-    let tables = tables(alloc, &trace, &chains)?;
-    let (tables, mut reach) = base(alloc, &trace, chains, tables)?;
-    let numbers = all(alloc, &trace)?;
-    expect_equal("all", numbers.as_slice(), &[1, 2, 3, 4])?;
-    let input = RowTables {
-        trace: &trace,
-        tables: &tables,
-        reach: &reach,
-    };
-    let row = row(alloc, input, 1)?;
-    expect_equal("from 1", row.as_slice(), &[4])?;
-    join(&mut reach, 1, 4);
-    let numbers = changed(alloc, &trace, &reach)?;
-    expect_equal("changed", numbers.as_slice(), &[1, 2])?;
-    Ok(())
+    let trace = trace(rt.alloc())?;
+    expect_all(rt.alloc(), &trace)?;
+    expect_rounds(rt.alloc(), &trace)
 }

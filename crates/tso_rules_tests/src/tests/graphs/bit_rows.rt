@@ -11,41 +11,64 @@ use std::alloc::{AllocError, Global};
 use std::test::Fail;
 use traces_for_tests::expect_equal;
 
+/// Compares words or numbers.
+fn expect_words(name: &'static str, found: &[u64], wanted: &[u64]) -> Result<(), Fail> {
+    expect_equal(name, found, wanted)
+}
+
+/// Words 1 and 0 with the bit of 66, words 0, 1 and 2 above 70, and words 1 and 0 without the bit of 65.
+static WORDS: [u64; 7] = [5, 1, 0, u64::MAX << 7, u64::MAX, 5, 7];
+
 #[test]
 fn words(_rt: HostRuntime) -> Result<(), Fail> {
-    expect_equal("bit 66 of word 1", with_bit(1, 1, 66), 5)?;
-    expect_equal("bit 66 of word 0", with_bit(1, 0, 66), 1)?;
-    expect_equal("word 0 above 70", word_above(70, 0), 0)?;
-    expect_equal("word 1 above 70", word_above(70, 1), u64::MAX << 7)?;
-    expect_equal("word 2 above 70", word_above(70, 2), u64::MAX)?;
-    expect_equal("word 1 without 65", word_without(7, 1, 65), 5)?;
-    expect_equal("word 0 without 65", word_without(7, 0, 65), 7)
+    let found = [
+        with_bit(1, 1, 66),
+        with_bit(1, 0, 66),
+        word_above(70, 0),
+        word_above(70, 1),
+        word_above(70, 2),
+        word_without(7, 1, 65),
+        word_without(7, 0, 65),
+    ];
+    expect_words("words", &found, &WORDS)
 }
+
+/// A row with the numbers 63, 64 and 66.
+static ROW: [u64; 2] = [1 << 63, 5];
+
+/// Its word 1, and what it has from words 0 and 1 on.
+static ROW_WORDS: [u64; 3] = [5, 1 << 62 | 1 << 63, 2];
 
 #[test]
 fn rows_that_are_read(_rt: HostRuntime) -> Result<(), Fail> {
-    let row: [u64; 2] = [1 << 63, 5];
-    expect_equal("word 1", word_at(&row, 1), 5)?;
-    expect_equal("word 2", word_at(&row, 2), 0)?;
-    expect_equal("66", has_number(&row, 66), true)?;
-    expect_equal("65", has_number(&row, 65), false)?;
-    expect_equal("128", has_number(&row, 128), false)?;
-    expect_equal("below word 0", word_below(&row, 0), 1 << 62 | 1 << 63)?;
-    expect_equal("below word 1", word_below(&row, 1), 2)
+    let found = [word_at(&ROW, 1), word_below(&ROW, 0), word_below(&ROW, 1)];
+    expect_words("words", &found, &ROW_WORDS)?;
+    let has = has_number(&ROW, 66) && !has_number(&ROW, 65) && !has_number(&ROW, 128);
+    expect_equal("66 alone of three", has, true)
 }
+
+/// Marks numbers and words of a row.
+fn mark_some(row: &mut Vec<u64>) -> Result<(), AllocError> {
+    mark(row, 66)?;
+    mark_if_some(row, Some(3))?;
+    mark_if_some(row, None)?;
+    mark_word(row, 1, 1)?;
+    mark_word(row, 5, 0)
+}
+
+static MARKED: [u64; 2] = [8, 5];
+
+static ADDED: [u64; 3] = [1, 0, 2];
+
+static BOTH: [u64; 3] = [9, 5, 2];
 
 #[test]
 fn rows_that_grow(rt: HostRuntime) -> Result<(), Fail> {
     let mut row = Vec::new(rt.alloc());
-    mark(&mut row, 66)?;
-    mark_if_some(&mut row, Some(3))?;
-    mark_if_some(&mut row, None)?;
-    mark_word(&mut row, 1, 1)?;
-    mark_word(&mut row, 5, 0)?;
-    expect_equal("marked", row.as_slice(), [8, 5].as_slice())?;
-    mark_row(&mut row, [1, 0, 2].as_slice())?;
-    expect_equal("a row marked", row.as_slice(), [9, 5, 2].as_slice())?;
-    Ok(())
+    mark_some(&mut row)?;
+    expect_words("marked", &row, &MARKED)?;
+    mark_row(&mut row, &ADDED)?;
+    expect_words("a row marked", &row, &BOTH)
 }
 
 /// The list of a row of one number.
@@ -60,8 +83,8 @@ fn list_of(alloc: Global, number: usize) -> Result<Vec<usize>, AllocError>
 #[test]
 fn lists(rt: HostRuntime) -> Result<(), Fail> {
     let list = list_of(rt.alloc(), 66)?;
-    expect_equal("list", list.as_slice(), [66].as_slice())?;
-    Ok(())
+    let found = (list.len(), list.first().copied());
+    expect_equal("list", found, (1, Some(66)))
 }
 
 /// A table of 64 rows of two words, in which each call that writes sets or clears bits.
@@ -85,26 +108,32 @@ fn table_of(alloc: Global) -> Result<Vec<u64>, AllocError> {
     Ok(table)
 }
 
+/// Its first two rows.
+static TABLE: [u64; 4] = [7, 48, 0, 10];
+
 #[test]
 fn tables(rt: HostRuntime) -> Result<(), Fail> {
     let table = table_of(rt.alloc())?;
-    expect_equal("word 0", word_at(&table, 0), 7)?;
-    expect_equal("word 1", word_at(&table, 1), 48)?;
-    expect_equal("word 2", word_at(&table, 2), 0)?;
-    expect_equal("word 3", word_at(&table, 3), 10)?;
-    Ok(())
+    let found = [
+        word_at(&table, 0),
+        word_at(&table, 1),
+        word_at(&table, 2),
+        word_at(&table, 3),
+    ];
+    expect_words("words 0 to 3", &found, &TABLE)
 }
+
+static COLUMNS: [u64; 4] = [3, 6, 4, 12];
 
 #[test]
 fn columns_of_two_rows(_rt: HostRuntime) -> Result<(), Fail> {
-    let words: [u64; 4] = [3, 6, 4, 12];
     let table = BitTable {
-        words: words.as_slice(),
+        words: &COLUMNS,
         width: 2,
     };
-    expect_equal("bit 66", bit(table, 1, 66), true)?;
-    expect_equal("bit 64", bit(table, 1, 64), false)?;
-    expect_equal("used words", used_words(table, 1), (0, 2))?;
-    let shared = first_shared(table, 0, words.as_slice(), 1, 0, 2);
-    expect_equal("shared", shared, Some(66))
+    let bits = bit(table, 1, 66) && !bit(table, 1, 64);
+    expect_equal("66 and not 64", bits, true)?;
+    let (from, to) = used_words(table, 1);
+    let shared = first_shared(table, 0, &COLUMNS, 1, 0, 2);
+    expect_equal("used and shared", (from, to, shared), (0, 2, Some(66)))
 }

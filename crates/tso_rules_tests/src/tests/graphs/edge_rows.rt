@@ -17,23 +17,24 @@ fn has_from(rows: &EdgeRows, u: usize) -> bool {
     u < rows.nodes() && rows.has_from(u)
 }
 
+/// The edges of rows with the edges from 65 to 64 and from 0 to 1: of two numbers whether there is an edge from the first to
+/// the second, and one from the first.
+static EDGES: [((usize, usize), bool); 4] = [
+    ((65, 64), true),
+    ((0, 1), true),
+    ((64, 65), false),
+    ((1, 0), false),
+];
+
 #[test]
 fn edges_one_by_one(rt: HostRuntime) -> Result<(), Fail> {
     let mut rows = EdgeRows::new(rt.alloc(), 66)?;
-    expect_equal("no edge", has_from(&rows, 65), false)?;
+    expect_equal((65, 65), has_from(&rows, 65), false)?;
     add(&mut rows, 65, 64);
     add(&mut rows, 0, 1);
-    expect_equal(
-        "from 65",
-        [has(&rows, 65, 64), has_from(&rows, 65)],
-        [true; 2],
-    )?;
-    expect_equal("from 0", [has(&rows, 0, 1), has_from(&rows, 0)], [true; 2])?;
-    expect_equal(
-        "from 64",
-        [has(&rows, 64, 65), has_from(&rows, 64)],
-        [false; 2],
-    )?;
-    expect_equal("from 1", [has(&rows, 1, 0), has_from(&rows, 1)], [false; 2])?;
+    for ((u, v), wanted) in &EDGES {
+        expect_equal((*u, *v), has(&rows, *u, *v), *wanted)?;
+        expect_equal((*u, *u), has_from(&rows, *u), *wanted)?;
+    }
     Ok(())
 }

@@ -5,7 +5,7 @@ use super::Case;
 
 /// Logs; of one that is read, the number of processors, the memory model, the first values, and the lines of its operations,
 /// processor by processor.
-pub(super) static LOGS: [Case; 56] = [
+pub(super) static LOGS: [Case; 73] = [
     (Kind::Log, "", "0 Tso []:"),
     (Kind::Log, "0 ld 1 0\n", "1 Tso []: 1"),
     (Kind::Log, "4095 mb\n", "4096 Tso []: 1"),
@@ -110,4 +110,25 @@ pub(super) static LOGS: [Case; 56] = [
         "model pso\ninit 1 1\n4096 mb\n0 mb",
         "ProcessorRange line 3",
     ),
+    (Kind::Log, "end\n", "0 Tso []:"),
+    (
+        Kind::Log,
+        "init 1 5\n0 ld 1 5\n1 un 2\nend\n",
+        "2 Tso [(1, 5)]: 2",
+    ),
+    (Kind::Log, "end", "BadLine line 1"),
+    (Kind::Log, "end \n", "BadLine line 1"),
+    (Kind::Log, "0 end\n", "BadLine line 1"),
+    (Kind::Log, "0 mb\nend\n\n", "BadLine line 3"),
+    (Kind::Log, "end\nend\n", "BadLine line 2"),
+    (Kind::Log, "0 mb\nend\n1 mb\n", "BadLine line 3"),
+    (Kind::Log, "end\nmodel pso\n", "BadLine line 2"),
+    (Kind::Log, "end\ninit 1 x\n", "BadNumber line 2"),
+    (Kind::EndedLog, "end\n", "0 Tso []:"),
+    (Kind::EndedLog, "model pso\n0 ld 1 0\nend\n", "1 Pso []: 2"),
+    (Kind::EndedLog, "", "BadLine line 1"),
+    (Kind::EndedLog, "0 mb\n1 mb\n", "BadLine line 3"),
+    (Kind::EndedLog, "0 mb\n1 mb\nend", "BadLine line 3"),
+    (Kind::EndedLog, "0 mb\n0 nop\n", "BadLine line 2"),
+    (Kind::EndedLog, "0 mb\nend\n0 mb\n", "BadLine line 3"),
 ];
