@@ -2,6 +2,8 @@
 //! and its drop.
 ghost use Rattle.std.specs.Prelude.{◌≡◌, ◌≤◌, []};
 
+mod large;
+
 use super::desks::STORES_THEN_LOADS;
 use super::gates::MeetingGate;
 use super::runs::{counted_unit, numbers_in};
@@ -9,7 +11,7 @@ use issue_desk::{
     Gate, Issuers, OpenGate, RunFault, RunThreads, run, run_over, run_with_drainer,
     run_with_drainer_over,
 };
-use std::alloc::{AllocError, Global};
+use std::alloc::Global;
 use std::sync::{Arc, Wait};
 use std::test::Fail;
 use std::thread::Threads;
@@ -238,88 +240,6 @@ fn units_in_no_box(rt: HostRuntime) -> Result<(), Fail> {
     let unit = InventingUnit::new(rt.alloc())?;
     let is_so = is_forwarded(&rt, rt.alloc(), unit, false, &INVENTED_ROWS)?;
     expect_equal("an inventing unit", is_so, true)
-}
-
-/// Operation `k` of processor `p`, whose stored value is no other's.
-fn counted_op(p: u64, k: u64) -> Op {
-    let v = p.wrapping_mul(60).wrapping_add(k).wrapping_add(1);
-    let a = (v % 5) as u16;
-    match k % 6 {
-        0 | 3 => Op::St { a, v },
-        1 | 4 => Op::Ld { a },
-        2 => Op::Sw { a, v },
-        _ => Op::Mb,
-    }
-}
-
-/// The sixty operations of processor `p`.
-fn counted_ops(alloc: Global, p: u64) -> Result<Vec<Op>, AllocError> {
-    let mut ops = Vec::new(alloc);
-    for k in 0..60u64 {
-        ops.push(counted_op(p, k))?;
-    }
-    Ok(ops)
-}
-
-/// A program of sixteen processors with sixty operations each.
-fn large_program(alloc: Global) -> Result<Program, ValueFault> {
-    let mut lists = Vec::new(alloc);
-    for p in 0..16u64 {
-        lists.push(counted_ops(alloc, p)?)?;
-    }
-    Program::with_order(alloc, Order::Tso, lists).map_err(|refused| refused.why)
-}
-
-/// Whether these are outcomes of the operations, all, in order.
-fn are_outcomes_of(outcomes: &[Outcome], ops: &[Op]) -> bool {
-    for (outcome, op) in outcomes.iter().zip(ops) {
-        if outcome.op() != *op {
-            return false;
-        }
-    }
-    outcomes.len() == ops.len()
-}
-
-/// Whether the record is lawful and has all operations of the program, and no others.
-fn is_whole(recorded: &Recorded, program: &Program) -> bool {
-    let trace = recorded.trace();
-    let processors = trace.processors();
-    if processors != program.processors() {
-        return false;
-    }
-    for p in 0..processors {
-        if !are_outcomes_of(trace.ops(p), program.ops(p)) {
-            return false;
-        }
-    }
-    recorded.lawful()
-}
-
-/// Runs the large program, and compares how it ended.
-fn expect_large<H: Threads + Wait + Sync>(
-    rt: &H,
-    alloc: Global,
-    program: &Program,
-    seed: u64,
-) -> Result<(), Fail> {
-    let threads = threads_at(&OpenGate, seed, 0);
-    let ended = run_counted(rt, alloc, program, 0, threads, &new_counts(alloc)?)?;
-    let is_so = match &ended.answer {
-        Ok(recorded) => is_whole(recorded, program),
-        Err(_) => false,
-    };
-    expect_equal(seed, is_so, true)?;
-    let account = ([320, 320, 160, 160, 320], true);
-    expect_equal(seed, numbers_in(&ended.account), account)
-}
-
-#[test]
-fn sixteen_processors_are_run(rt: HostRuntime) -> Result<(), Fail> {
-    let program = large_program(rt.alloc())?;
-    for seed in 0..20u64 {
-        expect_large(&rt, rt.alloc(), &program, seed)?;
-    }
-    Ok(())
 }
 
 /// A processor with an operation of each kind.
