@@ -1,6 +1,4 @@
-//! The checkers of certificates, of orders and of refutations.
+//! The checkers of certificates, of orders and of refutations: long texts, and refused allocations. `program-cases/` has short texts.
 
 mod long;
 mod refused_allocations;
-mod said;
-mod texts;

@@ -1,4 +1,4 @@
-//! Tests of memory units: of `unit_core`, `unit_kinds` and `unit_faulty`, by their public calls.
+//! Tests of `unit_core` and `issue_desk`, by their public calls.
 #![tactic(auto)]
 
 #[cfg(test)]

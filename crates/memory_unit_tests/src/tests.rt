@@ -1,11 +1,9 @@
-//! Memory units: driven by hand, and with programs run on them.
+//! Memory units with programs run on them.
 
 mod desk_runs;
 mod desks;
-mod driven;
 mod gates;
 mod logged_runs;
 mod refused;
 mod runs;
-mod states_of_programs;
 mod units;

@@ -1,20 +1,17 @@
-//! Traces made by hand, and what the tests share.
+//! What the tests share.
 
-mod at_limits;
 mod claims;
 mod faults;
 mod gates;
 mod refused_allocations;
-mod rounds_by_hand;
 
-use order_graph::Graph;
-use reference_rounds::has_unwritten_load;
-use round_pool::{Edge, MAX_WORKERS, PoolFault, PoolGate, Ranked, rounds};
+use round_pool::{MAX_WORKERS, PoolFault, PoolGate, Ranked, rounds};
 use std::alloc::Global;
 use std::fmt::Debug;
 use std::process::Abort;
 use std::sync::Wait;
 use std::thread::Threads;
+use traces_for_tests::has_unwritten_load;
 use tso_ops::Trace;
 
 /// Compares what a call gave in this case with what it has to give. An assertion costs the check of a function many times
@@ -36,15 +33,6 @@ fn rank_of(ranked: &Ranked, u: usize, v: usize) -> Option<u64> {
     ranked.rank(u, v)
 }
 
-/// The edges that round `k` added, or none past the last round.
-fn added(ranked: &Ranked, k: usize) -> &[Edge] {
-    if 1 <= k && k as u64 <= ranked.rounds() {
-        ranked.added(k)
-    } else {
-        &[]
-    }
-}
-
 /// The rounds, where no load of the trace is unwritten and there are 1 to 64 workers.
 fn made<H: Threads + Wait, G: PoolGate + Sync>(
     rt: &H,
@@ -57,9 +45,4 @@ fn made<H: Threads + Wait, G: PoolGate + Sync>(
         return Err(PoolFault::NoThread);
     }
     rounds(rt, alloc, trace, workers, gate)
-}
-
-/// Whether the graph has the edge; none has an end past its numbers.
-fn has(graph: &Graph, u: usize, v: usize) -> bool {
-    u < graph.nodes() && v < graph.nodes() && graph.has(u, v)
 }

@@ -1,9 +1,8 @@
-//! Traces that are reduced and decided, and searches of logs.
+//! Traces that are reduced and decided, and operations of logs that are left out.
 
 mod cases;
 mod chains;
 mod deciding;
-mod faults;
 mod parts;
 mod searching;
 

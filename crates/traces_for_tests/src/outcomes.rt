@@ -67,20 +67,6 @@ pub const STORE_BUFFERING: [&[Outcome]; 2] = [
     &[Outcome::St { a: 2, v: 2 }, Outcome::Ld { a: 1, r: 0 }],
 ];
 
-/// The edges of the example two_swaps_both_first: six base edges, two of the first round and two of the second.
-pub const TWO_SWAPS_EDGES: [(usize, usize); 10] = [
-    (0, 1),
-    (0, 2),
-    (0, 3),
-    (0, 4),
-    (1, 2),
-    (3, 4),
-    (1, 4),
-    (3, 2),
-    (2, 4),
-    (4, 2),
-];
-
 /// The trace of the example two_swaps_both_first.
 pub fn two_swaps_both_first(alloc: Global) -> Result<Trace, ValueFault> {
     trace_of(alloc, Order::Tso, TWO_SWAPS_BOTH_FIRST.rows)

@@ -1,15 +1,13 @@
-//! What no text of a trace shows of reports: readers and writers that fail, records of memory units, traces that are drawn, and
-//! refused allocations. Reports of texts and of certificates are in `program-cases/` and `examples/`.
+//! What no text of a trace shows of reports: readers and writers that fail, records of memory units, a trace by value, and refused
+//! allocations. Reports of texts and of certificates are in `program-cases/` and `examples/`.
 
-mod drawn_replays;
-mod drawn_traces;
+mod by_value;
 mod readers;
 mod records;
 mod refused_allocations;
 mod texts;
 mod writers;
 
-use std::alloc::{AllocError, Global};
 use std::process::Abort;
 use tso_report::{Fault, Verdict};
 
@@ -40,16 +38,4 @@ fn expect<H: Abort>(
 /// Compares a number of this case, of calls or of bytes.
 fn expect_count<H: Abort>(rt: &H, case: &str, found: usize, expected: usize) {
     assert_eq!(rt; found, expected, "{case}");
-}
-
-/// The report on so many processors, events and rounds without a violation.
-fn report_without_violation(
-    alloc: Global,
-    processors: usize,
-    events: usize,
-    rounds: u64,
-) -> Result<String, AllocError> {
-    format!(in alloc;
-        "TSO REPORT 1\nprocessors {processors} events {events} rounds {rounds}\nNO VIOLATION FOUND\n"
-    )
 }

@@ -1,5 +1,4 @@
-//! Tests of `bitsets`, `order_graph`, `tso_rules`, `reference_rounds`, `chain_reach`, `chain_rules` and `acyclic_traces`, by their
-//! public calls.
+//! Tests of `chain_rules` and `acyclic_traces` where no clause says all, and worked examples of `order_graph` and `tso_rules`.
 #![tactic(auto)]
 
 #[cfg(test)]

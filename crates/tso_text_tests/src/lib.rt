@@ -1,4 +1,4 @@
-//! Tests of `tso_ops`, `line_text`, `tso_text`, `tso_cert`, `tso_evidence`, `log_text` and `tso_model`, by their public calls.
+//! Tests of `tso_text`, `tso_cert`, `tso_evidence`, `log_text` and `tso_model`, by their public calls.
 #![tactic(auto)]
 
 #[cfg(test)]

@@ -1,13 +1,7 @@
-//! Values, their texts, and the conditions of rules.
+//! Texts, the names of faults, the conditions of rules, and programs that words make.
 
-mod by_hand;
 mod conditions;
-mod lines;
+mod faults;
 mod making;
-mod programs;
 mod reading;
-mod tallies;
 mod texts;
-mod traces;
-mod value_faults;
-mod written;

@@ -9,15 +9,3 @@ pub const OTHER_ACCOUNT: Account = Account {
     drains: 94,
     closed: false,
 };
-
-/// The closed account of so many loads, stores, swaps and membars, with a drain for each store.
-pub fn closed_account(loads: usize, stores: usize, swaps: usize, membars: usize) -> Account {
-    Account {
-        loads,
-        stores,
-        swaps,
-        membars,
-        drains: stores,
-        closed: true,
-    }
-}

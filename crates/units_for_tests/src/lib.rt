@@ -2,8 +2,7 @@
 //! proved.
 #![tactic(auto)]
 
-pub use accounts::{OTHER_ACCOUNT, closed_account};
-pub use answers::{Answered, first_unanswered};
+pub use accounts::OTHER_ACCOUNT;
 pub use counting::{CallCounts, CountingUnit, drops_of, new_counts, numbers_of};
 pub use forwarding::{Call, CallLog, ForwardingUnit, new_log};
 pub use gates::AfterDrain;
@@ -14,7 +13,6 @@ pub use records::is_record;
 pub use refusing::RefusingUnit;
 
 mod accounts;
-mod answers;
 mod counting;
 mod forwarding;
 mod gates;

@@ -11,7 +11,6 @@ use log_selections::{Kept, KnownLog, Selected};
 use log_text::Log;
 use order_graph::Graph;
 use progress_meters::NoMeter;
-use reference_rounds::rounds_number;
 use round_pool::{OpenPoolGate, PoolFault, Ranked, rounds};
 use search_memory::Memory;
 use std::alloc::{AllocError, Global};
@@ -63,12 +62,6 @@ pub fn reason_of_an_edge(
 ) -> Result<Option<Reason>, AllocError> {
     let found = justify(alloc, trace, graph, 1, 2)?;
     Ok(found)
-}
-
-/// `reference_rounds`: how many rounds a trace takes, by the definition.
-pub fn count_rounds_slowly(alloc: Global, trace: &Trace) -> Result<usize, AllocError> {
-    let number = rounds_number(alloc, trace)?;
-    Ok(number)
 }
 
 /// `final_states`: what complete runs of a program leave.

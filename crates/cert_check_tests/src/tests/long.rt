@@ -6,9 +6,7 @@ use refutation_check::check_refutation;
 use std::alloc::{AllocError, Global};
 use std::test::Fail;
 use traces_for_tests::Listed::Base;
-use traces_for_tests::{
-    LOAD_BEFORE_ITS_STORE, cycle_of, expect_equal, step_of, trace_from, trace_of,
-};
+use traces_for_tests::{cycle_of, expect_equal, step_of, trace_from, trace_of};
 use tso_cert::BaseRule::{LoadOp, Read};
 use tso_cert::{CertStep, NumList};
 use tso_evidence::RefutationLine;
@@ -187,7 +185,11 @@ fn nested_lines(alloc: Global) -> Result<Vec<RefutationLine>, AllocError> {
 #[test]
 fn hundred_thousand_open_cases(rt: HostRuntime) -> Result<(), Fail> {
     let alloc = rt.alloc();
-    let trace = trace_of(alloc, Order::Tso, LOAD_BEFORE_ITS_STORE.rows)?;
+    let trace = trace_of(
+        alloc,
+        Order::Tso,
+        &[&[Ld { a: 1, r: 1 }, St { a: 1, v: 1 }]],
+    )?;
     let lines = nested_lines(alloc)?;
     expect_equal("nested", check_refutation(alloc, &trace, &lines)?, Ok(()))
 }

@@ -3,14 +3,14 @@
 //! The call that meets it answers OutOfMemory, or NoThread where the allocation was that of a thread's start, and the next
 //! call the ordinary answer.
 
-use super::{expect, has, made, rank_of, rounds_of};
+use super::{expect, made, rank_of, rounds_of};
 use round_pool::{OpenPoolGate, PoolFault, Ranked};
 use std::alloc::{AllocGlobal, Global};
 use std::sync::Wait;
 use std::test::Fail;
 use std::thread::Threads;
 use traces_for_tests::two_swaps_both_first;
-use tso_ops::{OutOfMemory, Trace, ValueFault};
+use tso_ops::{Trace, ValueFault};
 
 fn trace(alloc: Global) -> Result<Trace, ValueFault> {
     match two_swaps_both_first(alloc) {
@@ -38,25 +38,5 @@ fn refused_allocations_of_rounds(rt: HostRuntime) -> Result<(), Fail> {
     let ranked = ranked(&rt, &trace, 2)?;
     expect(&rt, "rounds", rounds_of(&ranked), 2);
     expect(&rt, "2 to 4", rank_of(&ranked, 2, 4), Some(2));
-    Ok(())
-}
-
-/// Whether the graph of the last of two rounds has the edges from 2 to 4 and from 2 to 1.
-fn edges(ranked: &Ranked) -> Result<[bool; 2], OutOfMemory> {
-    if ranked.rounds() < 2 {
-        return Ok([false; 2]);
-    }
-    let graph = match ranked.up_to(2) {
-        Err(OutOfMemory) => ranked.up_to(2)?,
-        Ok(graph) => graph,
-    };
-    Ok([has(&graph, 2, 4), has(&graph, 2, 1)])
-}
-
-#[test]
-fn refused_allocations_of_a_graph(rt: HostRuntime) -> Result<(), Fail> {
-    let trace = trace(rt.alloc())?;
-    let ranked = ranked(&rt, &trace, 1)?;
-    expect(&rt, "edges", edges(&ranked)?, [true, false]);
     Ok(())
 }

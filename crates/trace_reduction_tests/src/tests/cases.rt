@@ -8,15 +8,14 @@ use std::thread::Threads;
 use trace_judging::Verdict;
 
 /// A trace in which loads of one location go back.
-pub(crate) const COHERENCE: &str =
+const COHERENCE: &str =
     "tso trace 1\nproc\nst 3 1\nld 3 1\nld 8 0\nproc\nld 3 1\nst 8 2\nld 3 0\nproc\nld 3 1\nend\n";
 
 /// Its small trace.
-pub(crate) const COHERENCE_REDUCED: &str = "tso trace 2\nproc\nld 0 1\nld 0 0\nproc\nst 0 1\nend\n";
+const COHERENCE_REDUCED: &str = "tso trace 2\nproc\nld 0 1\nld 0 0\nproc\nst 0 1\nend\n";
 
 /// The notes on the operations of this one.
-pub(crate) const COHERENCE_NOTES: &str =
-    "line 7 P0 'ld 0 1'\nline 9 P0 'ld 0 0'\nline 3 P1 'st 0 1'\n";
+const COHERENCE_NOTES: &str = "line 7 P0 'ld 0 1'\nline 9 P0 'ld 0 0'\nline 3 P1 'st 0 1'\n";
 
 /// Traces whose small traces have several operations.
 pub(crate) static SEVERAL: [Case<'static>; 5] = [

@@ -1,8 +1,6 @@
-//! Traces that are decided, evidence that is checked, and what the tests of both share.
+//! Traces that are decided, and their evidence, which is checked.
 
 mod decisions;
-mod evidence;
-mod faults;
 mod refused_allocations;
 
 ghost use Rattle.std.specs.Prelude.{◌≡◌, ◌≤◌};
@@ -72,19 +70,4 @@ fn expect_decided<H: Threads + Wait>(
     let mut rest = evidence_of(&written);
     let verified = verify_texts(alloc, &mut trace, &mut rest, &mut line);
     expect_equal(text, verified, Ok(answer))
-}
-
-/// Compares the line on evidence, and what it says.
-fn expect_line(
-    alloc: Global,
-    trace: &str,
-    evidence: &str,
-    (answer, line): (Answer, &str),
-) -> Result<(), Fail> {
-    let mut written = Vec::new(alloc);
-    let mut first = trace.as_bytes();
-    let mut second = evidence.as_bytes();
-    let said = verify_texts(alloc, &mut first, &mut second, &mut written);
-    expect_equal(evidence, said, Ok(answer))?;
-    expect_equal(evidence, written.as_slice(), line.as_bytes())
 }

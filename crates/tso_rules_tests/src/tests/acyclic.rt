@@ -1,8 +1,7 @@
 //! Which traces are shown to have no derived cycle.
 
+use super::counted;
 use acyclic_traces::{MAX_EVENTS, is_shown_acyclic};
-use chain_rules::count_rounds;
-use reference_rounds::has_unwritten_load;
 use std::alloc::Global;
 use std::test::Fail;
 use traces_for_tests::{
@@ -13,11 +12,10 @@ use tso_ops::{Order, OutOfMemory, Trace};
 
 /// Whether the rounds of a trace end with a cycle; None where a load is unwritten.
 fn has_cycle(alloc: Global, trace: &Trace) -> Result<Option<bool>, OutOfMemory> {
-    if has_unwritten_load(trace) {
-        return Ok(None);
+    match counted(alloc, trace)? {
+        Some(count) => Ok(Some(count.is_cyclic)),
+        None => Ok(None),
     }
-    let count = count_rounds(alloc, trace)?;
-    Ok(Some(count.is_cyclic))
 }
 
 /// How many traces of each kind are drawn.

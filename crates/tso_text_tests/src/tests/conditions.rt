@@ -1,41 +1,85 @@
 //! The conditions of base rules and of inferred rules.
 
-use super::written::trace_of;
 use std::alloc::Global;
 use std::test::Fail;
 use traces_for_tests::{expect_equal, two_swaps_both_first};
 use tso_cert::BaseRule::{Init, LoadOp, Membar, Own, Read, Stbar, StoreStore};
 use tso_cert::{BaseRule, InferredRule};
 use tso_model::conditions::{Ends, first_base_rule, inferred_ends, is_base_pair};
+use tso_text::read_trace;
 
-/// What one processor did, two events of it, and the first base rule that gives the edge between them.
+/// The trace of one processor, two events of it, and the first base rule that gives the edge between them.
 type Pair = (&'static str, (usize, usize), Option<BaseRule>);
 
 static PAIRS: [Pair; 15] = [
-    ("proc, st 1 1", (0, 1), Some(Init)),
-    ("proc, ld 1 0, ld 2 0", (1, 2), Some(LoadOp)),
-    ("proc, st 1 1, ld 2 0", (1, 2), None),
-    ("proc, st 1 1, mb, ld 2 0", (1, 2), Some(Membar)),
-    ("proc, st 1 1, ld 1 0", (1, 0), Some(Own)),
-    ("proc, st 1 1, ld 1 1", (1, 2), None),
-    ("proc, sw 1 5 5", (2, 1), Some(Read)),
-    ("proc, ld 1 1, st 1 1", (2, 1), Some(Read)),
-    ("proc, st 1 1, st 2 2", (1, 2), Some(StoreStore)),
-    ("pso, proc, st 1 1, st 2 2", (1, 2), None),
-    ("pso, proc, st 1 1, st 1 2", (1, 2), Some(StoreStore)),
-    ("pso, proc, st 1 1, stbar, st 2 2", (1, 2), Some(Stbar)),
-    ("pso, proc, st 1 1, stbar, st 1 2", (1, 2), Some(StoreStore)),
-    ("pso, proc, st 1 1, mb, st 2 2", (1, 2), None),
-    ("pso, proc, st 1 1, stbar, ld 2 0", (1, 2), None),
+    ("tso trace 1\nproc\nst 1 1\nend\n", (0, 1), Some(Init)),
+    (
+        "tso trace 1\nproc\nld 1 0\nld 2 0\nend\n",
+        (1, 2),
+        Some(LoadOp),
+    ),
+    ("tso trace 1\nproc\nst 1 1\nld 2 0\nend\n", (1, 2), None),
+    (
+        "tso trace 1\nproc\nst 1 1\nmb\nld 2 0\nend\n",
+        (1, 2),
+        Some(Membar),
+    ),
+    (
+        "tso trace 1\nproc\nst 1 1\nld 1 0\nend\n",
+        (1, 0),
+        Some(Own),
+    ),
+    ("tso trace 1\nproc\nst 1 1\nld 1 1\nend\n", (1, 2), None),
+    ("tso trace 1\nproc\nsw 1 5 5\nend\n", (2, 1), Some(Read)),
+    (
+        "tso trace 1\nproc\nld 1 1\nst 1 1\nend\n",
+        (2, 1),
+        Some(Read),
+    ),
+    (
+        "tso trace 1\nproc\nst 1 1\nst 2 2\nend\n",
+        (1, 2),
+        Some(StoreStore),
+    ),
+    (
+        "tso trace 1\nmodel pso\nproc\nst 1 1\nst 2 2\nend\n",
+        (1, 2),
+        None,
+    ),
+    (
+        "tso trace 1\nmodel pso\nproc\nst 1 1\nst 1 2\nend\n",
+        (1, 2),
+        Some(StoreStore),
+    ),
+    (
+        "tso trace 1\nmodel pso\nproc\nst 1 1\nstbar\nst 2 2\nend\n",
+        (1, 2),
+        Some(Stbar),
+    ),
+    (
+        "tso trace 1\nmodel pso\nproc\nst 1 1\nstbar\nst 1 2\nend\n",
+        (1, 2),
+        Some(StoreStore),
+    ),
+    (
+        "tso trace 1\nmodel pso\nproc\nst 1 1\nmb\nst 2 2\nend\n",
+        (1, 2),
+        None,
+    ),
+    (
+        "tso trace 1\nmodel pso\nproc\nst 1 1\nstbar\nld 2 0\nend\n",
+        (1, 2),
+        None,
+    ),
 ];
 
 /// The first base rule of a pair gives the pair.
 fn expect_pair(alloc: Global, pair: &Pair) -> Result<(), Fail> {
-    let (line, (u, v), rule) = *pair;
-    let trace = trace_of(alloc, line)?;
-    expect_equal(line, first_base_rule(&trace, u, v), rule)?;
+    let (text, (u, v), rule) = *pair;
+    let trace = read_trace(alloc, text.as_bytes())?;
+    expect_equal(text, first_base_rule(&trace, u, v), rule)?;
     if let Some(given) = rule {
-        expect_equal(line, is_base_pair(&trace, given, u, v), true)?;
+        expect_equal(text, is_base_pair(&trace, given, u, v), true)?;
     }
     Ok(())
 }

@@ -1,4 +1,4 @@
-//! Shapes, and programs drawn in them.
+//! Programs that words make.
 ghost use Rattle.std.specs.Prelude.{ℕ, ◌%◌, ◌/◌};
 ghost use Rattle.rand_core.specs.Steps.{steps_u64_low, stream_of};
 
@@ -44,49 +44,6 @@ impl Rng for ByteWords {
     fn fill_bytes(&mut self, dst: &mut [u8]) {
         utils::fill_bytes_via_u64(self, dst)
     }
-}
-
-/// Processors, operations and addresses, and whether the shape that they are of is that of 2, 3 and 4.
-static SHAPES: [([u64; 3], Option<bool>); 19] = [
-    ([1, 1_000, 1], Some(false)),
-    ([1, 1_001, 1], None),
-    ([16, 62, 256], Some(false)),
-    ([16, 63, 1], None),
-    ([0, 1, 1], None),
-    ([17, 1, 1], None),
-    ([1, 1, 0], None),
-    ([1, 1, 257], None),
-    ([4, 250, 8], Some(false)),
-    ([4, 251, 8], None),
-    ([16, 0, 1], Some(false)),
-    ([16, 1 << 60, 1], None),
-    ([2, 1 << 63, 1], None),
-    ([1, u64::MAX, 1], None),
-    ([16, u64::MAX, 1], None),
-    ([2, 3, 4], Some(true)),
-    ([1, 3, 4], Some(false)),
-    ([2, 2, 4], Some(false)),
-    ([2, 3, 5], Some(false)),
-];
-
-/// The numbers of a shape, and whether it is that of 2, 3 and 4, as is asked in two ways.
-fn compared([processors, operations, addresses]: [u64; 3]) -> Option<([u64; 3], [bool; 2])> {
-    let other = Shape::new(2, 3, 4)?;
-    let shape = Shape::new(processors, operations, addresses)?;
-    let numbers = [shape.processors(), shape.operations(), shape.addresses()];
-    Some((numbers, [other.is_same(&shape), other == shape]))
-}
-
-#[test]
-fn shapes_and_their_limits(_rt: HostRuntime) -> Result<(), Fail> {
-    for (numbers, same) in &SHAPES {
-        let expected = match same {
-            Some(same) => Some((*numbers, [*same; 2])),
-            None => None,
-        };
-        expect_equal(*numbers, compared(*numbers), expected)?;
-    }
-    Ok(())
 }
 
 /// A program that words make in a shape of two processors and four addresses; a 9 comes after the words.

@@ -18,8 +18,6 @@ pub(super) enum Kind {
     Certificate,
     Evidence,
     Log,
-    /// A log whose line `end` is needed.
-    EndedLog,
 }
 
 /// What comes of a text; of a log that is read, the number of processors, the memory model, the first values, and the lines
@@ -31,8 +29,7 @@ pub(super) fn text_back(alloc: Global, kind: Kind, text: &str) -> Result<String,
         Kind::Schedule => schedule_back(alloc, text),
         Kind::Certificate => certificate_back(alloc, text),
         Kind::Evidence => evidence_back(alloc, text),
-        Kind::Log => log_back(alloc, text, false),
-        Kind::EndedLog => log_back(alloc, text, true),
+        Kind::Log => log_back(alloc, text),
     }
 }
 
@@ -75,8 +72,8 @@ fn evidence_back(alloc: Global, text: &str) -> Result<String, AllocError> {
     }
 }
 
-fn log_back(alloc: Global, text: &str, needs_end: bool) -> Result<String, AllocError> {
-    match read_log(alloc, text.as_bytes(), needs_end) {
+fn log_back(alloc: Global, text: &str) -> Result<String, AllocError> {
+    match read_log(alloc, text.as_bytes(), false) {
         Ok(log) => lines_of(alloc, &log),
         Err(fault) => format!(in alloc; "{fault}"),
     }

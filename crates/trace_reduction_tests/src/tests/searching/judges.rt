@@ -1,39 +1,8 @@
 //! Judges of what is kept of a log.
 
 use log_search::Judge;
-use log_selections::{Kept, KnownLog};
-use reference_rounds::{has_cycle, rank_set, rounds_number};
-use std::alloc::Global;
-use tso_ops::{OutOfMemory, Trace};
-
-/// Accuses what is cut out of a log, with the sources of its loads, where the edges of all rounds have a cycle.
-#[derive(Drop)]
-pub(super) struct RulesJudge<'a> {
-    alloc: Global,
-    known: &'a KnownLog,
-}
-
-impl<'a> RulesJudge<'a> {
-    /// Of this log.
-    pub(super) fn new(alloc: Global, known: &'a KnownLog) -> RulesJudge<'a> {
-        RulesJudge { alloc, known }
-    }
-}
-
-impl Judge for RulesJudge<'_> {
-    fn accuses(&mut self, kept: &[Vec<Kept>]) -> Result<bool, OutOfMemory> {
-        match self.known.trace_of(self.alloc, kept)? {
-            Some(trace) => is_accused(self.alloc, &trace),
-            None => Ok(false),
-        }
-    }
-}
-
-fn is_accused(alloc: Global, trace: &Trace) -> Result<bool, OutOfMemory> {
-    let rounds = rounds_number(alloc, trace)?;
-    let edges = rank_set(alloc, trace, rounds)?;
-    has_cycle(alloc, &edges, trace.node_count())
-}
+use log_selections::Kept;
+use tso_ops::OutOfMemory;
 
 /// Accuses all that has some operations, by processors and indices, and counts how often it was asked.
 #[derive(Drop)]

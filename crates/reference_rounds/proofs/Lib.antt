@@ -1,4 +1,0 @@
-pub mod EdgeFacts
-pub mod PathFacts
-pub mod RankFacts
-pub mod RoundFacts

@@ -1,2 +1,0 @@
--- What private tables keep and how far loops have come. No public contract uses these definitions.
-pub mod PlainLists

@@ -1,2 +1,0 @@
-pub mod EdgeLists
-pub mod Internal
