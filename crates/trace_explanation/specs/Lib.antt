@@ -1,9 +1,11 @@
 pub mod Claims
 pub mod CycleNames
 pub mod CycleShapes
+pub mod DiagnosedCycles
 pub mod Diagnoses
 pub mod Explained
 pub mod Explanations
+pub mod FieldEdges
 pub mod Internal
 pub mod Lines
 pub mod Names

@@ -73,7 +73,7 @@ fn push_missed(
 {
     match numbered.step(last_of(walk), item(walk, 0)) {
         Some(step) => {
-            let path = missed_path(alloc, named, step)?;
+            let path = missed_path(alloc, named.trace, step)?;
             push_missed_by(alloc, text, named, walk, &path)
         }
         None => Ok(()),
@@ -100,17 +100,17 @@ fn push_missed_by(
 }
 
 /// The path from a store to the load that sees it, by the step. OutOfMemory where an allocation was refused.
-fn missed_path(
+pub(crate) fn missed_path(
     alloc: Global,
-    named: &NamedTrace<'_>,
+    trace: &Trace,
     step: &CertStep,
 ) -> Result<Vec<u64>, AllocError>
-    ensures { IfOk result (λ path. path.items ≡ missed_path named.now.trace.now step.now.from step.now.to step.now.reason) }
+    ensures { IfOk result (λ path. path.items ≡ missed_path trace.now step.now.from step.now.to step.now.reason) }
 {
     match &step.reason {
         Reason::Base(_) => {
             let mut path = vec![in alloc; step.from]?;
-            if let Some(load) = own_load(named.trace, step.from as usize, step.to as usize) {
+            if let Some(load) = own_load(trace, step.from as usize, step.to as usize) {
                 path.push(load as u64)?;
             }
             Ok(path)
@@ -120,7 +120,7 @@ fn missed_path(
 }
 
 /// Whether the walk to the store says nothing of the cycle's shape.
-fn is_direct(trace: &Trace, walk: &[u64]) -> bool
+pub(crate) fn is_direct(trace: &Trace, walk: &[u64]) -> bool
     ensures { result ≡ is_direct trace.now walk.now }
 {
     item(walk, 0) == 0

@@ -6,7 +6,9 @@
 #![tactic(auto)]
 
 pub use cycles::{model_name, order_sentences};
+pub use diagnosed_cycles::diagnosed_cycle;
 pub use explanations::{explain, explain_named};
+pub use field_edges::{FieldEdge, field_edge, field_name};
 pub use links::list_links;
 pub use loads::step_load;
 pub use marks::{mark, mark_step};
@@ -16,15 +18,18 @@ pub use numbers::NumberedSteps;
 pub use prefixes::first_of;
 pub use refusals::explain_refusal;
 pub use rendering::AsExplanation;
+pub use unfolded_cycles::is_link;
 pub use unwritten::list_stores;
 pub use words::reason_words;
 
 mod cycle_names;
 mod cycle_shapes;
 mod cycles;
+mod diagnosed_cycles;
 mod diagnoses;
 mod diagnosis_words;
 mod explanations;
+mod field_edges;
 pub mod laws;
 mod links;
 mod loads;

@@ -95,7 +95,7 @@ fn push_path(
 }
 
 /// Whether the edge from `u` to `v` is one of these.
-fn is_link(links: &[(u64, u64)], u: u64, v: u64) -> bool
+pub fn is_link(links: &[(u64, u64)], u: u64, v: u64) -> bool
     ensures { result ≡ is_link links.now u v }
 {
     for link in links {

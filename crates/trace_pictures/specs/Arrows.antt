@@ -1,4 +1,4 @@
--- The arrows of a picture: its edges that are steps of the certificate. Each is a line of Graphviz, and a line in the box that it leaves.
+-- The arrows of a picture: its edges that are steps of the certificate, or the cycle's. Each is a line of Graphviz, and a line in the box that it leaves.
 use Rattle.std.specs.Prelude.{ℕ, zero, suc, ◌-◌, ◌==◌, ◌&&◌, Bool, true, false, List, [], ◌∷◌, ◌++◌, length, drop, map, take, cond, slice_get, codes}
 use Rattle.std.specs.Option.{option_map_or}
 use Rattle.std.specs.List.{filter, flat_map, range_with_len}
@@ -9,7 +9,10 @@ use Rattle.tso_cert.specs.declared.steps.Reason.TheVariants.{Base, Inferred}
 use Rattle.tso_cert.specs.Printed.{event_text}
 use Rattle.trace_explanation.specs.JoinedTexts.{joined}
 use Rattle.trace_explanation.specs.Steps.{links_of, step_number}
+use Rattle.trace_explanation.specs.FieldEdges.{field_name}
 use Rattle.trace_pictures.specs.declared.arrows.Arrow.{Arrow}
+use Rattle.trace_pictures.specs.declared.arrows.ArrowName.{ArrowName}
+use Rattle.trace_pictures.specs.declared.arrows.ArrowName.TheVariants.{Step, Field}
 use Rattle.trace_pictures.specs.declared.arrows.Mark.{Mark}
 use Rattle.trace_pictures.specs.declared.arrows.Mark.TheVariants.{Red, BothWays, Back, Orange, Dashed}
 use Rattle.trace_pictures.specs.Edges.{are_nodes, is_beside, node_name}
@@ -19,7 +22,7 @@ use Rattle.trace_pictures.specs.Labels.{step_label}
 
 -- an edge with this mark, by the first step that is this edge
 abbrev pub arrow_along : List CertStep → Mark → ℕ × ℕ → Arrow
-arrow_along steps mark link = record { mark = mark; from = link.0; to = link.1; number = step_number steps link }
+arrow_along steps mark link = record { mark = mark; from = link.0; to = link.1; name = Step (step_number steps link) }
 
 -- of the edges of the cycle those whose ends have nodes
 abbrev pub red_links : List CertStep → List ℕ → List (ℕ × ℕ) → List Arrow
@@ -44,7 +47,7 @@ is_dashed steps nodes shown k = option_map_or (λ s. is_derived s.reason && is_b
 
 -- the arrow of the step at place k
 abbrev pub dashed_arrow : List CertStep → ℕ → List Arrow
-dashed_arrow steps k = option_map_or (λ s. record { mark = Dashed; from = s.from; to = s.to; number = suc k } ∷ []) (slice_get steps k) []
+dashed_arrow steps k = option_map_or (λ s. record { mark = Dashed; from = s.from; to = s.to; name = Step (suc k) } ∷ []) (slice_get steps k) []
 
 -- the last 40 of these
 abbrev pub last_forty : List ℕ → List ℕ
@@ -88,10 +91,15 @@ abbrev pub step_words : List CertStep → ℕ → List ℕ
 step_words steps zero = []
 step_words steps (suc k) = option_map_or (λ s. step_label (suc k) s.reason) (slice_get steps k) []
 
--- the step of an arrow, and which number comes later by it
+-- a step, or the name that the field gives an edge
+abbrev pub name_words : List CertStep → ArrowName → List ℕ
+name_words steps (Step number) = step_words steps number
+name_words steps (Field edge) = field_name edge
+
+-- the name of an arrow, and which number comes later by it
 unfoldable pub arrow_words : List CertStep → Arrow → List ℕ
 arrow_words steps a = joined (
-    codes "<br/><font point-size=\"10\" color=\"" ∷ mark_colour a.mark ∷ codes "\">" ∷ step_words steps a.number ∷ codes " to " ∷ event_text a.to ∷ codes "</font>" ∷ [])
+    codes "<br/><font point-size=\"10\" color=\"" ∷ mark_colour a.mark ∷ codes "\">" ∷ name_words steps a.name ∷ codes " to " ∷ event_text a.to ∷ codes "</font>" ∷ [])
 
 -- the arrow leaves this number
 abbrev pub leaves : ℕ → Arrow → Bool

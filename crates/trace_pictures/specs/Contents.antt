@@ -2,12 +2,16 @@
 use Rattle.std.specs.Prelude.{ℕ, List, Option}
 use Rattle.tso_cert.specs.declared.steps.Certificate.{Certificate}
 use Rattle.trace_pictures.specs.declared.captions.Caption.{Caption}
+use Rattle.trace_pictures.specs.declared.edge_names.EdgeNames.{EdgeNames}
 
--- A certificate or none, an order in which events have numbers, empty where they have none, and the caption.
+-- A certificate or none, the cycle that is drawn, empty where there is none, an order in which events have numbers, empty where they have none, the
+-- caption, and which names the cycle's edges have.
 pub record Shown : Type 0 where
   pub certificate : Option Certificate
+  pub cycle : List ℕ
   pub order : List ℕ
   pub caption : Caption
+  pub edges : EdgeNames
 
-abbrev pub shown_of : Option Certificate → List ℕ → Caption → Shown
-shown_of c order caption = record { certificate = c; order = order; caption = caption }
+abbrev pub shown_of : Option Certificate → List ℕ → List ℕ → Caption → EdgeNames → Shown
+shown_of c cycle order caption edges = record { certificate = c; cycle = cycle; order = order; caption = caption; edges = edges }

@@ -1,7 +1,7 @@
 -- What is red, what has a node, and the lines of the edges from stores to loads that read them.
 use Rattle.std.specs.Prelude.{ℕ, ◌==◌, ◌&&◌, Bool, not, List, [], ◌∷◌, ◌++◌, Option, None, Some, cond, codes}
 use Rattle.std.specs.Option.{option_and_then, option_map_or, option_to_list}
-use Rattle.std.specs.List.{find, flat_map, list_any}
+use Rattle.std.specs.List.{find, flat_map}
 use Rattle.std.specs.Fmt.{decimal}
 use Rattle.tso_ops.specs.Values.{TraceValue}
 use Rattle.tso_cert.specs.declared.steps.CertStep.{CertStep}
@@ -10,6 +10,7 @@ use Rattle.tso_cert.specs.declared.steps.Certificate.TheVariants.{Unwritten, Cyc
 use Rattle.trace_explanation.specs.Names.{source_of}
 use Rattle.trace_explanation.specs.JoinedTexts.{joined}
 use Rattle.trace_explanation.specs.Steps.{is_among, is_edge, links_of, step_load}
+use Rattle.trace_explanation.specs.UnfoldedCycles.{is_link}
 
 -- ---- the cycle
 
@@ -27,11 +28,11 @@ steps_in (Some (Cycle steps cycle)) = steps
 abbrev pub link_load : TraceValue → List CertStep → ℕ × ℕ → List ℕ
 link_load t steps link = option_to_list (option_and_then (step_load t) (find (is_edge link) steps))
 
--- the numbers that have a red border: the unwritten load, or the cycle's and the loads of its edges
-abbrev pub red_numbers : TraceValue → Option Certificate → List ℕ
-red_numbers t None = []
-red_numbers t (Some (Unwritten n)) = n ∷ []
-red_numbers t (Some (Cycle steps cycle)) = cycle ++ flat_map (link_load t steps) (links_of cycle)
+-- the numbers that have a red border: the unwritten load, or those of this cycle and the loads of its edges
+abbrev pub red_numbers : TraceValue → Option Certificate → List ℕ → List ℕ
+red_numbers t None cycle = []
+red_numbers t (Some (Unwritten n)) cycle = n ∷ []
+red_numbers t (Some (Cycle steps own)) cycle = cycle ++ flat_map (link_load t steps) (links_of cycle)
 
 -- ---- what has a node
 
@@ -45,7 +46,7 @@ are_nodes nodes edge = is_among edge.0 nodes && is_among edge.1 nodes
 
 -- both ends have a node, and the edge is none of these
 abbrev pub is_beside : List ℕ → List (ℕ × ℕ) → ℕ × ℕ → Bool
-is_beside nodes links edge = are_nodes nodes edge && not (list_any (λ link. link.0 == edge.0 && link.1 == edge.1) links)
+is_beside nodes links edge = are_nodes nodes edge && not (is_link links edge.0 edge.1)
 
 abbrev pub node_name : ℕ → List ℕ
 node_name n = cond (n == 0) (codes "init") (joined (codes "e" ∷ decimal n ∷ []))

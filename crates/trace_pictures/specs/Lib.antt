@@ -3,6 +3,7 @@ pub mod Captions
 pub mod Choice
 pub mod Contents
 pub mod Edges
+pub mod FieldArrows
 pub mod Labels
 pub mod Nodes
 pub mod Paths

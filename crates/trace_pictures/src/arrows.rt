@@ -1,4 +1,4 @@
-//! The arrows of a picture: its edges that are steps of the certificate.
+//! The arrows of a picture: its edges that are steps of the certificate, or the cycle's.
 ghost use Rattle.std.specs.Prelude.{◌≡◌, ◌++◌, [], ◌∷◌, length, map, string_bytes, IfOk, OnOk};
 ghost use Rattle.std.specs.List.{filter, flat_map, range_with_len};
 ghost use Rattle.std.specs.Option.{option_to_list};
@@ -10,7 +10,7 @@ use crate::edges::node_name;
 use crate::members::{are_nodes, is_beside};
 use std::alloc::{AllocError, Global};
 use std::fmt::Write;
-use trace_explanation::NumberedSteps;
+use trace_explanation::{FieldEdge, NumberedSteps};
 use tso_cert::{BaseRule, CertStep, Reason};
 
 /// How many dashed arrows there are at most.
@@ -31,13 +31,22 @@ pub enum Mark {
     Dashed,
 }
 
-/// An edge of a picture that is a step of the certificate, by the number of the step: 0 where no step is this edge.
+/// By which name the box that an arrow leaves speaks of it.
+#[derive(Clone, Copy, Debug, PartialEq, Eq)]
+pub enum ArrowName {
+    /// By the step of this number: 0 where no step is this edge.
+    Step(usize),
+    /// By what the field calls it.
+    Field(FieldEdge),
+}
+
+/// An edge of a picture, and its name.
 #[derive(Clone, Copy, Debug, PartialEq, Eq)]
 pub struct Arrow {
     pub mark: Mark,
     pub from: usize,
     pub to: usize,
-    pub number: usize,
+    pub name: ArrowName,
 }
 
 /// All arrows, by the cycle and the orange edges, which are to be `shown` together. OutOfMemory where an allocation was refused.
@@ -145,7 +154,7 @@ fn arrow_along(numbered: &NumberedSteps<'_>, mark: Mark, link: (u64, u64)) -> Ar
         mark,
         from: link.0 as usize,
         to: link.1 as usize,
-        number: numbered.number(link.0, link.1),
+        name: ArrowName::Step(numbered.number(link.0, link.1)),
     }
 }
 
@@ -225,7 +234,7 @@ fn dashed_arrow(steps: &[CertStep], k: usize) -> Option<Arrow>
             mark: Mark::Dashed,
             from: step.from as usize,
             to: step.to as usize,
-            number: k + 1,
+            name: ArrowName::Step(k + 1),
         }),
         None => None,
     }

@@ -1,7 +1,8 @@
 //! What stands above a picture.
 ghost use Rattle.std.specs.Prelude.{◌≡◌, ◌++◌, string_bytes, IfOk, OnOk};
-ghost use Rattle.trace_pictures.specs.Captions.{caption_of, captions_text, colour_words, drawn_words, verdict_words};
+ghost use Rattle.trace_pictures.specs.Captions.{caption_of, captions_text, colour_words, cycle_caption, drawn_words, verdict_words};
 
+use crate::edge_names::EdgeNames;
 use std::alloc::{AllocError, Global};
 use std::fmt::Write;
 use trace_explanation::model_name;
@@ -17,6 +18,8 @@ pub enum Caption {
     Unwritten,
     /// There is a cycle of edges that every order has to keep.
     Cycle,
+    /// There is one, whose edges have the names of the field.
+    FieldCycle,
     /// The numbers at events are places in an order that the memory model allows.
     Consistent,
     /// A refutation by cases, which the picture doesn't show, says that there is no such order.
@@ -25,14 +28,24 @@ pub enum Caption {
     Undecided,
 }
 
-/// The caption of a picture by a certificate, or by none.
-pub(crate) fn caption_of(certificate: &Option<Certificate>) -> Caption
-    ensures { result ≡ caption_of certificate.now }
+/// The caption of a picture by a certificate, or by none, where edges have these names.
+pub(crate) fn caption_of(edges: EdgeNames, certificate: &Option<Certificate>) -> Caption
+    ensures { result ≡ caption_of edges certificate.now }
 {
     match certificate {
         None => Caption::NoViolation,
         Some(Certificate::Unwritten(_)) => Caption::Unwritten,
-        Some(Certificate::Cycle { .. }) => Caption::Cycle,
+        Some(Certificate::Cycle { .. }) => cycle_caption(edges),
+    }
+}
+
+/// The caption of a picture of a cycle whose edges have these names.
+fn cycle_caption(edges: EdgeNames) -> Caption
+    ensures { result ≡ cycle_caption edges }
+{
+    match edges {
+        EdgeNames::Rules => Caption::Cycle,
+        EdgeNames::Field => Caption::FieldCycle,
     }
 }
 
@@ -65,7 +78,7 @@ fn verdict_words(caption: Caption) -> &'static str
 {
     match caption {
         Caption::NoViolation => ", no violation found\\l",
-        Caption::Unwritten | Caption::Cycle => ", violation\\l",
+        Caption::Unwritten | Caption::Cycle | Caption::FieldCycle => ", violation\\l",
         Caption::Consistent => ", consistent\\l",
         Caption::Refuted =>
             ", violation\\lno memory order explains this trace: explain --decide has the cases\\l",
@@ -94,6 +107,8 @@ fn colour_words(caption: Caption) -> &'static str
         Caption::Unwritten => "red box: a load of a value that nothing wrote to its address\\l",
         Caption::Cycle =>
             "red: the cycle, each event before the next, and the loads that its edges speak of\\lorange: the paths by which edges of the cycle are inferred, each event before the next\\ldashed: other derived edges, from an event to one that comes later\\lsmall lines in a box: the edges from it, by number and rule of the step in the explanation\\l",
+        Caption::FieldCycle =>
+            "red: a cycle, each event before the next, and the loads that its edges speak of\\lsmall lines in a box: the edges from it\\lpo: program order; in brackets the barrier or the swap that keeps it\\lrf (reads-from): from a store to a load that read it\\lco (coherence): from a store to a later one at its address\\lfr (from-read): from a load to a store at its address that is later than what it read\\lswap: no other store comes between a swap's load and its store\\l",
         Caption::Consistent =>
             "green number: the place of the event in a memory order that the model allows\\l",
     }

@@ -3,15 +3,19 @@ ghost use Rattle.std.specs.Prelude.{◌≡◌};
 ghost use Rattle.trace_pictures.specs.Contents.{shown_of};
 
 use crate::captions::Caption;
+use crate::edge_names::EdgeNames;
 use std::marker::Model;
 use tso_cert::Certificate;
 
-/// A certificate or none, an order in which events have numbers, empty where they have none, and the caption.
+/// A certificate or none, the cycle that is drawn, empty where there is none, an order in which events have numbers, empty where
+/// they have none, the caption, and which names the cycle's edges have.
 #[derive(Debug, Drop)]
 pub(crate) struct Content<'c> {
     certificate: &'c Option<Certificate>,
+    cycle: &'c [u64],
     order: &'c [u64],
     caption: Caption,
+    edges: EdgeNames,
 }
 
 impl<'c> Model for Content<'c> {
@@ -19,22 +23,26 @@ impl<'c> Model for Content<'c> {
 
     ghost Value = { Shown };
 
-    ghost view = { λ c. record { certificate = c.certificate.now; order = c.order.now; caption = c.caption } };
+    ghost view = { λ c. record { certificate = c.certificate.now; cycle = c.cycle.now; order = c.order.now; caption = c.caption; edges = c.edges } };
 }
 
 impl<'c> Content<'c> {
-    /// These three.
+    /// These five.
     pub(crate) fn new(
         certificate: &'c Option<Certificate>,
+        cycle: &'c [u64],
         order: &'c [u64],
         caption: Caption,
+        edges: EdgeNames,
     ) -> Content<'c>
-        ensures { result ≡ shown_of certificate.now order.now caption }
+        ensures { result ≡ shown_of certificate.now cycle.now order.now caption edges }
     {
         Content {
             certificate,
+            cycle,
             order,
             caption,
+            edges,
         }
     }
 
@@ -43,6 +51,13 @@ impl<'c> Content<'c> {
         ensures { result.now ≡ self.now.certificate }
     {
         self.certificate
+    }
+
+    /// The cycle that is drawn.
+    pub(crate) fn cycle(&self) -> &'c [u64]
+        ensures { result.now ≡ self.now.cycle }
+    {
+        self.cycle
     }
 
     /// The order in which events have numbers.
@@ -57,5 +72,12 @@ impl<'c> Content<'c> {
         ensures { result ≡ self.now.caption }
     {
         self.caption
+    }
+
+    /// Which names the cycle's edges have.
+    pub(crate) fn edges(&self) -> EdgeNames
+        ensures { result ≡ self.now.edges }
+    {
+        self.edges
     }
 }

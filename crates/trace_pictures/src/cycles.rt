@@ -31,14 +31,10 @@ impl Model for LinkedCycle {
 }
 
 impl LinkedCycle {
-    /// The cycle of a certificate, or OutOfMemory where an allocation was refused.
-    pub(crate) fn new(
-        alloc: Global,
-        certificate: &Option<Certificate>,
-    ) -> Result<LinkedCycle, AllocError>
-        ensures { IfOk result (λ cycle. cycle ≡ cycle_in certificate.now) }
+    /// This cycle, or OutOfMemory where an allocation was refused.
+    pub(crate) fn new(alloc: Global, cycle: &[u64]) -> Result<LinkedCycle, AllocError>
+        ensures { IfOk result (λ linked. linked ≡ cycle.now) }
     {
-        let cycle = cycle_in(certificate);
         Ok(LinkedCycle {
             numbers: list_cycle(alloc, cycle)?,
             links: list_links(alloc, cycle)?,
@@ -61,7 +57,7 @@ impl LinkedCycle {
 }
 
 /// The cycle of a certificate: empty where it has none.
-fn cycle_in(certificate: &Option<Certificate>) -> &[u64]
+pub(crate) fn cycle_in(certificate: &Option<Certificate>) -> &[u64]
     ensures { result.now ≡ cycle_in certificate.now }
 {
     match certificate {
@@ -80,28 +76,24 @@ pub(crate) fn steps_in(certificate: &Option<Certificate>) -> &[CertStep]
     }
 }
 
-/// The numbers that have a red border: the unwritten load, or those of the cycle and the loads of its edges. OutOfMemory
+/// The numbers that have a red border: the unwritten load, or those of this cycle and the loads of its edges. OutOfMemory
 /// where an allocation was refused.
 pub(crate) fn list_red(
     alloc: Global,
     trace: &Trace,
     certificate: &Option<Certificate>,
+    cycle: &[u64],
 ) -> Result<Vec<usize>, AllocError>
-    ensures { IfOk result (λ red. red.items ≡ red_numbers trace.now certificate.now) }
+    ensures { IfOk result (λ red. red.items ≡ red_numbers trace.now certificate.now cycle.now) }
 {
     let mut red = Vec::new(alloc);
     match certificate {
         None => {},
         Some(Certificate::Unwritten(n)) => red.push(*n as usize)?,
-        Some(Certificate::Cycle { steps, cycle }) => {
+        Some(Certificate::Cycle { steps, .. }) => {
             let numbered = NumberedSteps::new(alloc, steps.items())?;
-            red = list_cycle(alloc, cycle.items())?;
-            push_loads(
-                &mut red,
-                trace,
-                &numbered,
-                &list_links(alloc, cycle.items())?,
-            )?;
+            red = list_cycle(alloc, cycle)?;
+            push_loads(&mut red, trace, &numbered, &list_links(alloc, cycle)?)?;
         },
     }
     Ok(red)

@@ -2,13 +2,13 @@
 ghost use Rattle.std.specs.Prelude.{◌≡◌, ◌≤◌, length, string_bytes, IfOk, OnOk};
 ghost use Rattle.std.specs.List.{filter};
 ghost use Rattle.tso_cert.specs.Printed.{event_text};
-ghost use Rattle.trace_pictures.specs.Arrows.{arrow_words, arrows_at, leaves, mark_colour, step_words};
+ghost use Rattle.trace_pictures.specs.Arrows.{arrow_words, arrows_at, leaves, mark_colour, name_words, step_words};
 ghost use Rattle.trace_pictures.specs.Nodes.{small_lines};
 
-use crate::arrows::{Arrow, Mark};
+use crate::arrows::{Arrow, ArrowName, Mark};
 use crate::labels::step_label;
 use std::alloc::{AllocError, Global};
-use trace_explanation::first_of;
+use trace_explanation::{field_name, first_of};
 use tso_cert::CertStep;
 
 /// How many small lines a box has at most.
@@ -54,15 +54,25 @@ pub(crate) fn small_lines(
     Ok(text)
 }
 
-/// The small line of an arrow: its step, and which number comes later by it.
+/// The small line of an arrow: its name, and which number comes later by it.
 #[tactic(auto, unfolding(crate::specs::Arrows::arrow_words))]
 fn arrow_words(alloc: Global, steps: &[CertStep], arrow: Arrow) -> Result<String, AllocError>
     ensures { IfOk result (λ text. string_bytes text ≡ arrow_words steps.now arrow) }
 {
     let colour = mark_colour(arrow.mark);
-    let step = step_words(alloc, steps, arrow.number)?;
+    let name = name_words(alloc, steps, arrow.name)?;
     let to = event_text(alloc, arrow.to)?;
-    format!(in alloc; "<br/><font point-size=\"10\" color=\"{colour}\">{step} to {to}</font>")
+    format!(in alloc; "<br/><font point-size=\"10\" color=\"{colour}\">{name} to {to}</font>")
+}
+
+/// The name of an arrow: a step, or what the field calls it.
+fn name_words(alloc: Global, steps: &[CertStep], name: ArrowName) -> Result<String, AllocError>
+    ensures { IfOk result (λ text. string_bytes text ≡ name_words steps.now name) }
+{
+    match name {
+        ArrowName::Step(number) => step_words(alloc, steps, number),
+        ArrowName::Field(edge) => String::from_str(alloc, field_name(edge)),
+    }
 }
 
 /// The colour of an arrow's small line.

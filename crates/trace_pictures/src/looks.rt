@@ -1,18 +1,18 @@
 //! What the nodes of a picture show beside the trace.
 ghost use Rattle.std.specs.Prelude.{◌≡◌, IfOk};
 ghost use Rattle.trace_explanation.specs.Steps.{links_of};
-ghost use Rattle.trace_pictures.specs.Edges.{cycle_in, steps_in};
 ghost use Rattle.trace_pictures.specs.Paths.{path_numbers};
-ghost use Rattle.trace_pictures.specs.Pictures.{looks_of};
+ghost use Rattle.trace_pictures.specs.Pictures.{looks_of, orange_numbers};
 
 use crate::arrows::Arrow;
 use crate::contents::Content;
-use crate::cycles::{LinkedCycle, list_red, steps_in};
+use crate::cycles::{list_red, steps_in};
+use crate::edge_names::EdgeNames;
 use crate::paths::push_path_numbers;
 use std::alloc::{AllocError, Global};
 use std::marker::Model;
-use trace_explanation::NumberedSteps;
-use tso_cert::{CertStep, Certificate};
+use trace_explanation::{NumberedSteps, list_links};
+use tso_cert::CertStep;
 use tso_ops::Trace;
 
 /// The steps of a certificate, the arrows, which numbers are red and orange, and an order in which events have numbers.
@@ -43,8 +43,8 @@ impl<'s> NodeLooks<'s> {
     ) -> Result<NodeLooks<'s>, AllocError>
         ensures { IfOk result (λ looks. looks ≡ looks_of trace.now content.now arrows.now) }
     {
-        let red = list_red(alloc, trace, content.certificate())?;
-        let orange = list_path_numbers(alloc, content.certificate())?;
+        let red = list_red(alloc, trace, content.certificate(), content.cycle())?;
+        let orange = list_orange_numbers(alloc, content)?;
         Ok(NodeLooks {
             steps: steps_in(content.certificate()),
             arrows,
@@ -90,16 +90,30 @@ impl<'s> NodeLooks<'s> {
     }
 }
 
+/// The numbers of the paths of the cycle's edges, where these have the names of rules. OutOfMemory where an allocation was
+/// refused.
+fn list_orange_numbers(alloc: Global, content: &Content<'_>) -> Result<Vec<usize>, AllocError>
+    ensures { IfOk result (λ orange. orange.items ≡ orange_numbers content.now) }
+{
+    match content.edges() {
+        EdgeNames::Rules => {
+            list_path_numbers(alloc, steps_in(content.certificate()), content.cycle())
+        },
+        EdgeNames::Field => Ok(Vec::new(alloc)),
+    }
+}
+
 /// The numbers of the paths of the cycle's edges. OutOfMemory where an allocation was refused.
 fn list_path_numbers(
     alloc: Global,
-    certificate: &Option<Certificate>,
+    steps: &[CertStep],
+    cycle: &[u64],
 ) -> Result<Vec<usize>, AllocError>
-    ensures { IfOk result (λ orange. orange.items ≡ path_numbers (steps_in certificate.now) (links_of (cycle_in certificate.now))) }
+    ensures { IfOk result (λ orange. orange.items ≡ path_numbers steps.now (links_of cycle.now)) }
 {
-    let numbered = NumberedSteps::new(alloc, steps_in(certificate))?;
-    let cycle = LinkedCycle::new(alloc, certificate)?;
+    let numbered = NumberedSteps::new(alloc, steps)?;
+    let links = list_links(alloc, cycle)?;
     let mut orange = Vec::new(alloc);
-    push_path_numbers(&mut orange, &numbered, cycle.links())?;
+    push_path_numbers(&mut orange, &numbered, &links)?;
     Ok(orange)
 }

@@ -1,20 +1,24 @@
 //! The picture of a trace.
-ghost use Rattle.std.specs.Prelude.{◌≡◌, ◌++◌, string_bytes, OnOk};
-ghost use Rattle.trace_pictures.specs.Pictures.{edges_text, graph_text, layout_text, nodes_text, numbered_picture, picture_of, picture_text, picture_with};
+ghost use Rattle.std.specs.Prelude.{◌≡◌, ◌++◌, string_bytes, IfOk, OnOk};
+ghost use Rattle.trace_explanation.specs.DiagnosedCycles.{diagnosed_cycle};
+ghost use Rattle.trace_pictures.specs.Edges.{cycle_in, steps_in};
+ghost use Rattle.trace_pictures.specs.Pictures.{edges_text, field_graph, field_picture, graph_text, layout_text, nodes_text, numbered_picture, picture_of, picture_text, picture_with, rule_graph};
 
 use crate::arrows::{Arrow, list_arrows, list_shown, push_arrows};
 use crate::captions::{Caption, caption_of, push_captions};
 use crate::choice::choose_events;
 use crate::contents::Content;
-use crate::cycles::{LinkedCycle, steps_in};
+use crate::cycles::{LinkedCycle, cycle_in, steps_in};
+use crate::edge_names::EdgeNames;
 use crate::edges::{list_nodes, push_reads};
+use crate::field_arrows::list_field_arrows;
 use crate::labels::column_width;
 use crate::looks::NodeLooks;
 use crate::nodes::{push_first_values, push_processors};
 use crate::paths::list_orange;
 use crate::placed::PlacedTrace;
 use std::alloc::{AllocError, Global};
-use trace_explanation::NumberedSteps;
+use trace_explanation::{NumberedSteps, diagnosed_cycle};
 use tso_cert::Certificate;
 use tso_ops::Trace;
 
@@ -29,8 +33,40 @@ pub fn draw(
 ) -> Result<(), AllocError>
     ensures { OnOk result (string_bytes text.new ≡ string_bytes text.old ++ picture_text trace.now certificate.now) }
 {
-    let content = Content::new(certificate, &[], caption_of(certificate));
+    let caption = caption_of(EdgeNames::Rules, certificate);
+    let cycle = cycle_in(certificate);
+    let content = Content::new(certificate, cycle, &[], caption, EdgeNames::Rules);
     push_content(alloc, text, trace, &content)
+}
+
+/// Appends the picture of a trace with the cycle that the diagnosis of its violation names, and with the names of the field at
+/// the cycle's edges, as `po` and `rf`; without a cycle it is the picture that `draw` appends.
+///
+/// OutOfMemory where an allocation was refused.
+pub fn draw_field(
+    alloc: Global,
+    text: &mut String,
+    trace: &Trace,
+    certificate: &Option<Certificate>,
+) -> Result<(), AllocError>
+    ensures { OnOk result (string_bytes text.new ≡ string_bytes text.old ++ field_picture trace.now certificate.now) }
+{
+    let cycle = field_cycle(alloc, trace, certificate)?;
+    let caption = caption_of(EdgeNames::Field, certificate);
+    let content = Content::new(certificate, &cycle, &[], caption, EdgeNames::Field);
+    push_content(alloc, text, trace, &content)
+}
+
+/// The cycle that the diagnosis by a certificate names: empty where it has none.
+fn field_cycle(
+    alloc: Global,
+    trace: &Trace,
+    certificate: &Option<Certificate>,
+) -> Result<Vec<u64>, AllocError>
+    ensures { IfOk result (λ cycle. cycle.items ≡ diagnosed_cycle trace.now (steps_in certificate.now) (cycle_in certificate.now)) }
+{
+    let numbered = NumberedSteps::new(alloc, steps_in(certificate))?;
+    diagnosed_cycle(alloc, trace, &numbered, cycle_in(certificate))
 }
 
 /// Appends the picture of a trace without a certificate: with this caption, and, at each drawn event that stands in `order`,
@@ -47,7 +83,7 @@ pub fn draw_numbered(
     ensures { OnOk result (string_bytes text.new ≡ string_bytes text.old ++ numbered_picture trace.now order.now caption) }
 {
     let certificate = None;
-    let content = Content::new(&certificate, order, caption);
+    let content = Content::new(&certificate, &[], order, caption, EdgeNames::Rules);
     push_content(alloc, text, trace, &content)
 }
 
@@ -102,7 +138,6 @@ fn push_layout(text: &mut String) -> Result<(), AllocError>
 }
 
 /// Appends the nodes and the edges.
-#[tactic(auto, unfolding(crate::specs::Pictures::graph_text))]
 fn push_graph(
     alloc: Global,
     text: &mut String,
@@ -112,14 +147,50 @@ fn push_graph(
 ) -> Result<(), AllocError>
     ensures { OnOk result (string_bytes text.new ≡ string_bytes text.old ++ graph_text placed.now content.now drawn.now) }
 {
+    match content.edges() {
+        EdgeNames::Rules => push_rule_graph(alloc, text, placed, content, drawn),
+        EdgeNames::Field => push_field_graph(alloc, text, placed, content, drawn),
+    }
+}
+
+/// Appends the nodes and the edges, which have the names of rules.
+#[tactic(auto, unfolding(crate::specs::Pictures::rule_graph))]
+fn push_rule_graph(
+    alloc: Global,
+    text: &mut String,
+    placed: &PlacedTrace<'_>,
+    content: &Content<'_>,
+    drawn: &[usize],
+) -> Result<(), AllocError>
+    ensures { OnOk result (string_bytes text.new ≡ string_bytes text.old ++ rule_graph placed.now content.now drawn.now) }
+{
     let numbered = NumberedSteps::new(alloc, steps_in(content.certificate()))?;
-    let cycle = LinkedCycle::new(alloc, content.certificate())?;
+    let cycle = LinkedCycle::new(alloc, content.cycle())?;
     let nodes = list_nodes(alloc, drawn, &cycle)?;
     let orange = list_orange(alloc, &numbered, &nodes, cycle.links())?;
     let arrows = list_arrows(alloc, &numbered, &nodes, &cycle, &orange)?;
     let shown = list_shown(alloc, &cycle, &orange)?;
     push_nodes(alloc, text, placed, content, drawn, &arrows)?;
     push_edges(alloc, text, placed.trace(), drawn, &shown, &arrows)
+}
+
+/// Appends the nodes and the edges, of which those of the cycle have the names of the field.
+#[tactic(auto, unfolding(crate::specs::Pictures::field_graph))]
+fn push_field_graph(
+    alloc: Global,
+    text: &mut String,
+    placed: &PlacedTrace<'_>,
+    content: &Content<'_>,
+    drawn: &[usize],
+) -> Result<(), AllocError>
+    ensures { OnOk result (string_bytes text.new ≡ string_bytes text.old ++ field_graph placed.now content.now drawn.now) }
+{
+    let numbered = NumberedSteps::new(alloc, steps_in(content.certificate()))?;
+    let cycle = LinkedCycle::new(alloc, content.cycle())?;
+    let nodes = list_nodes(alloc, drawn, &cycle)?;
+    let arrows = list_field_arrows(alloc, placed.trace(), &numbered, &nodes, &cycle)?;
+    push_nodes(alloc, text, placed, content, drawn, &arrows)?;
+    push_edges(alloc, text, placed.trace(), drawn, cycle.links(), &arrows)
 }
 
 /// Appends the nodes, with these arrows.
@@ -135,7 +206,7 @@ fn push_nodes(
     ensures { OnOk result (string_bytes text.new ≡ string_bytes text.old ++ nodes_text placed.now content.now drawn.now arrows.now) }
 {
     let trace = placed.trace();
-    let cycle = LinkedCycle::new(alloc, content.certificate())?;
+    let cycle = LinkedCycle::new(alloc, content.cycle())?;
     let looks = NodeLooks::new(alloc, trace, content, arrows)?;
     let width = column_width(alloc, placed, drawn)?;
     push_first_values(

@@ -10,7 +10,7 @@ use std::sync::Wait;
 use std::thread::Threads;
 use trace_explanation::AsExplanation;
 use trace_judging::{Fault, Rendering, Verdict, judge_with};
-use trace_pictures::AsPicture;
+use trace_pictures::{AsFieldPicture, AsPicture};
 use traces_for_tests::FailingReader;
 
 /// The room that a text gets.
@@ -72,6 +72,17 @@ const STORE_BUFFERING: Case = (
 #[test]
 fn refused_allocations_of_a_picture(rt: HostRuntime) {
     expect_violation(&rt, rt.alloc(), STORE_BUFFERING, &AsPicture);
+}
+
+/// A cycle of two, of which the field names another, of four.
+const MESSAGE_PASSING: Case = (
+    "tso trace 1\nproc\nst 1 1\nst 2 2\nproc\nld 2 2\nld 1 0\nend\n",
+    "digraph trace {\n  graph [layout=neato, inputscale=72, splines=true, outputorder=nodesfirst, fontname=\"Helvetica\", fontsize=12, labelloc=t, labeljust=l];\n  node [shape=box, style=filled, fillcolor=\"#ffffff\", fontname=\"Helvetica\", fontsize=12, height=0.34, width=1.2];\n  edge [arrowsize=0.7];\n  label=\"TSO, violation\\lblue edge: from a store to a load that read it\\lblue box: a load that read the first value of its address\\lred: a cycle, each event before the next, and the loads that its edges speak of\\lsmall lines in a box: the edges from it\\lpo: program order; in brackets the barrier or the swap that keeps it\\lrf (reads-from): from a store to a load that read it\\lco (coherence): from a store to a later one at its address\\lfr (from-read): from a load to a store at its address that is later than what it read\\lswap: no other store comes between a swap's load and its store\\l\";\n  p0 [label=\"P0\", shape=plaintext, fontsize=14, pos=\"0,-70!\"];\n  e1 [label=<st 1 1 (1)<br/><font point-size=\"10\" color=\"#c00000\">po to 2</font>>, pos=\"0,-128!\", color=\"#c00000\", penwidth=2];\n  p0 -> e1 [color=\"#b0b0b0\", arrowhead=none];\n  e2 [label=<st 2 2 (2)<br/><font point-size=\"10\" color=\"#c00000\">rf to 3</font>>, pos=\"0,-192!\", color=\"#c00000\", penwidth=2];\n  e1 -> e2 [color=\"#b0b0b0\", arrowhead=none];\n  p1 [label=\"P1\", shape=plaintext, fontsize=14, pos=\"220,-70!\"];\n  e3 [label=<ld 2 2 (3)<br/><font point-size=\"10\" color=\"#c00000\">po to 4</font>>, pos=\"220,-154!\", color=\"#c00000\", penwidth=2];\n  p1 -> e3 [color=\"#b0b0b0\", arrowhead=none];\n  e4 [label=<ld 1 0 (4)<br/><font point-size=\"10\" color=\"#c00000\">fr to 1</font>>, pos=\"220,-218!\", fillcolor=\"#d8e6f8\", color=\"#c00000\", penwidth=2];\n  e3 -> e4 [color=\"#b0b0b0\", arrowhead=none];\n  e1 -> e2 [color=\"#c00000\", penwidth=2.5];\n  e2 -> e3 [color=\"#c00000\", penwidth=2.5];\n  e3 -> e4 [color=\"#c00000\", penwidth=2.5];\n  e4 -> e1 [color=\"#c00000\", penwidth=2.5];\n}\n",
+);
+
+#[test]
+fn refused_allocations_of_a_picture_in_words_of_the_field(rt: HostRuntime) {
+    expect_violation(&rt, rt.alloc(), MESSAGE_PASSING, &AsFieldPicture);
 }
 
 /// A reader that fails, and a writer that is full after some bytes.

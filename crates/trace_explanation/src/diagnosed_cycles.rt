@@ -1,0 +1,58 @@
+//! The cycle that a diagnosis names.
+ghost use Rattle.std.specs.Prelude.{◌≡◌, IfOk};
+ghost use Rattle.trace_explanation.specs.DiagnosedCycles.{diagnosed_cycle, missed_cycle, named_cycle};
+
+use crate::cycle_shapes::last_of;
+use crate::diagnoses::{is_direct, missed_path};
+use crate::numbers::NumberedSteps;
+use crate::unfolded_cycles::{EdgeKind, item, unfolded_cycle, walk_by};
+use std::alloc::{AllocError, Global};
+use tso_ops::Trace;
+
+/// The cycle of which the diagnosis of a certificate's cycle says the shape: each number before the next, and the last before
+/// the first. OutOfMemory where an allocation was refused.
+pub fn diagnosed_cycle(
+    alloc: Global,
+    trace: &Trace,
+    numbered: &NumberedSteps<'_>,
+    cycle: &[u64],
+) -> Result<Vec<u64>, AllocError>
+    ensures { IfOk result (λ numbers. numbers.items ≡ diagnosed_cycle trace.now numbered.now cycle.now) }
+{
+    let unfolded = unfolded_cycle(alloc, numbered, cycle)?;
+    named_cycle(alloc, trace, numbered, &unfolded)
+}
+
+/// The same by the unfolded cycle.
+#[tactic(auto, unfolding(crate::specs::DiagnosedCycles::named_cycle))]
+fn named_cycle(
+    alloc: Global,
+    trace: &Trace,
+    numbered: &NumberedSteps<'_>,
+    cycle: &[u64],
+) -> Result<Vec<u64>, AllocError>
+    ensures { IfOk result (λ numbers. numbers.items ≡ named_cycle trace.now numbered.now cycle.now) }
+{
+    if let Some(walk) = walk_by(alloc, numbered, EdgeKind::FromRead, cycle)? {
+        return Ok(walk);
+    }
+    match walk_by(alloc, numbered, EdgeKind::Missed, cycle)? {
+        Some(walk) => missed_cycle(alloc, trace, numbered, &walk),
+        None => Vec::from_slice(alloc, cycle),
+    }
+}
+
+/// The walk to a store from what a load read that missed it, or that load's path from the store where the walk is direct.
+fn missed_cycle(
+    alloc: Global,
+    trace: &Trace,
+    numbered: &NumberedSteps<'_>,
+    walk: &[u64],
+) -> Result<Vec<u64>, AllocError>
+    ensures { IfOk result (λ numbers. numbers.items ≡ missed_cycle trace.now numbered.now walk.now) }
+{
+    match numbered.step(last_of(walk), item(walk, 0)) {
+        Some(step) if is_direct(trace, walk) => missed_path(alloc, trace, step),
+        _ => Vec::from_slice(alloc, walk),
+    }
+}
