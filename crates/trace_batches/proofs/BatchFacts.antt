@@ -1,5 +1,5 @@
 -- Lemmas on the way of a text of a batch: while it is read, at its end, and what is left of a fault.
-use Rattle.std.proofs.Common.{◌≡◌, ℕ, suc, ◌+◌, List, [], ◌++◌, length, take, drop, map, None, Some, IfSome, refl, ap, sym, subst, ◌∙◌, arith, append_assoc}
+use Rattle.std.proofs.Common.{◌≡◌, ℕ, suc, ◌+◌, List, [], ◌++◌, length, take, drop, map, None, Some, IfSome, refl, ap, ap₂, sym, subst, ◌∙◌, arith, append_assoc}
 use Rattle.std.specs.Prelude.{Option}
 use Rattle.std.specs.Global.{Vec}
 use Rattle.std.specs.Io.KnownBytes.{Appends, Consumes, IsAtEnd, prepend_known}
@@ -15,29 +15,32 @@ use Rattle.trace_reports.proofs.ReadingFacts.{reads_whole}
 use Rattle.trace_batches.specs.declared.batches.BatchMethod.{BatchMethod}
 use Rattle.trace_batches.specs.declared.judgments.Judgment.{Judgment}
 use Rattle.trace_batches.specs.declared.tallies.Tally.{Tally}
-use Rattle.trace_batches.specs.Batches.{AreResults, Counts, TextPrinting, pieces_text}
+use Rattle.trace_batches.specs.Batches.{AreResults, Counts, TextPrinting, count_violations, pieces_notes, pieces_text}
 use Rattle.trace_batches.specs.Judgments.{AreJudgments}
 use Rattle.trace_batches.specs.Internal.Progress.{LeavesPieces, Stands, Told, WroteAll, WroteSome}
-use Rattle.trace_batches.proofs.JobFacts.{AreJudgments-append, kept_texts, pieces_text-append}
+use Rattle.trace_batches.proofs.JobFacts.{AreJudgments-append, kept_texts, pieces_notes-append, pieces_text-append}
 use Rattle.trace_batches.proofs.JudgmentFacts.{firsts, judgments_of_firsts, some_judgments}
 use Rattle.trace_judging.proofs.StreamFacts.{prefix_after, prefix_of_more, whole_written}
 
 -- ---- what is left of a text
 
 -- a prefix of what is printed of the first pieces
-of_reader : (way : TextPrinting) (remaining old new : Option (List ℕ)) (stream : List ℕ) (told untold : List (List ℕ)) (judgments : List Judgment) → IfSome remaining (λ bytes. stream ≡ bytes) →
-    ArePieces stream (told ++ untold) → AreJudgments way.printing.method told judgments → AppendsPrefix old new (pieces_text way 1 told judgments) → LeavesPieces way remaining old new
-of_reader way remaining old new stream told untold judgments all are_pieces are_judgments written =
+of_reader : (way : TextPrinting) (kept : ℕ) (remaining old new before errors : Option (List ℕ)) (stream : List ℕ) (told untold : List (List ℕ)) (judgments : List Judgment) →
+    IfSome remaining (λ bytes. stream ≡ bytes) → ArePieces stream (told ++ untold) → AreJudgments way.printing.method told judgments → AppendsPrefix old new (pieces_text way 1 told judgments) →
+    AppendsPrefix before errors (pieces_notes way kept 1 judgments) → LeavesPieces way kept remaining old new before errors
+of_reader way kept remaining old new before errors stream told untold judgments all are_pieces are_judgments written noted =
     let more = some_judgments way.printing.method untold in
     let pieces = told ++ untold in
     let whole = judgments ++ more.0 in
     let first = pieces_text way 1 told judgments in
     let others = pieces_text way (1 + length judgments) untold more.0 in
+    let notes = pieces_notes way (kept + count_violations judgments) (1 + length judgments) more.0 in
     let are : AreResults way.printing.method stream pieces whole = record { are_pieces = are_pieces; are_judgments = AreJudgments-append way.printing.method told untold judgments more.0 are_judgments more.1 } in (
       pieces,
       whole,
       reads_whole (λ s. AreResults way.printing.method s pieces whole) remaining stream all are,
       subst (AppendsPrefix old new) (sym (pieces_text-append way 1 told untold judgments more.0 are_judgments)) (prefix_of_more old new first others written),
+      subst (AppendsPrefix before errors) (sym (pieces_notes-append way kept 1 judgments more.0)) (prefix_of_more before errors (pieces_notes way kept 1 judgments) notes noted),
     )
 
 -- what was not read yet
@@ -46,23 +49,24 @@ later_of None now bytes taken = ([], tt)
 later_of (Some all) None bytes taken = absurd taken
 later_of (Some all) (Some rest) bytes taken = (rest, sym taken)
 
-left_of_reader : (way : TextPrinting) (remaining now old new : Option (List ℕ)) (bytes rest : List ℕ) (told untold : List (List ℕ)) (judgments : List Judgment) → Consumes remaining now bytes →
-    IsSplit bytes (told ++ untold) rest → AreJudgments way.printing.method told judgments → AppendsPrefix old new (pieces_text way 1 told judgments) → LeavesPieces way remaining old new
-left_of_reader way remaining now old new bytes rest told untold judgments taken cut are_judgments written =
+left_of_reader : (way : TextPrinting) (kept : ℕ) (remaining now old new before errors : Option (List ℕ)) (bytes rest : List ℕ) (told untold : List (List ℕ)) (judgments : List Judgment) →
+    Consumes remaining now bytes → IsSplit bytes (told ++ untold) rest → AreJudgments way.printing.method told judgments → AppendsPrefix old new (pieces_text way 1 told judgments) →
+    AppendsPrefix before errors (pieces_notes way kept 1 judgments) → LeavesPieces way kept remaining old new before errors
+left_of_reader way kept remaining now old new before errors bytes rest told untold judgments taken cut are_judgments written noted =
     let later = later_of remaining now bytes taken in
     let more = some_cut later.0 rest cut.no_end.0 cut.no_end.1 in
     let joined = cut_joined bytes later.0 rest more.1 (told ++ untold) more.0 cut more.2 in
     let others = untold ++ (more.0 ++ last_piece more.1) in
     let same : ((told ++ untold) ++ more.0) ++ last_piece more.1 ≡ told ++ others =
     append_assoc (told ++ untold) more.0 (last_piece more.1) ∙ append_assoc told untold (more.0 ++ last_piece more.1) in
-    of_reader way remaining old new (bytes ++ later.0) told others judgments later.1
-    (record { ended = (told ++ untold) ++ more.0; rest = more.1; cut = joined; pieces_are = sym same }) are_judgments written
+    of_reader way kept remaining old new before errors (bytes ++ later.0) told others judgments later.1
+    (record { ended = (told ++ untold) ++ more.0; rest = more.1; cut = joined; pieces_are = sym same }) are_judgments written noted
 
 -- ---- while the stream is read
 
-pub stands_at_start : (way : TextPrinting) (remaining old : Option (List ℕ)) (cutter : CutterValue) (tally : Tally) → cutter.limit ≡ trace_read_limit → IsAt cutter [] → Counts tally [] →
-    Stands way remaining remaining old old cutter tally
-stands_at_start way remaining old cutter tally limit at counts = record {
+pub stands_at_start : (way : TextPrinting) (kept : ℕ) (remaining old before : Option (List ℕ)) (cutter : CutterValue) (tally : Tally) → cutter.limit ≡ trace_read_limit → IsAt cutter [] → Counts tally [] →
+    Stands way kept remaining remaining old old before before cutter tally
+stands_at_start way kept remaining old before cutter tally limit at counts = record {
   bytes = [];
   taken = Consumes-nil remaining;
   ended = [];
@@ -74,14 +78,15 @@ stands_at_start way remaining old cutter tally limit at counts = record {
   are_judgments = tt;
   counts = counts;
   written = Appends-nil old;
+  noted = Appends-nil before;
 }
 
 -- a fault before more is written
-pub stands_left : (way : TextPrinting) (remaining now old new : Option (List ℕ)) (cutter : CutterValue) (tally : Tally) → Stands way remaining now old new cutter tally →
-    LeavesPieces way remaining old new
-stands_left way remaining now old new cutter tally s =
-    left_of_reader way remaining now old new s.bytes s.rest s.ended [] s.judgments s.taken (subst (λ es. IsSplit s.bytes es s.rest) (sym (append-nil s.ended)) s.cut) s.are_judgments
-    (whole_written old new (pieces_text way 1 s.ended s.judgments) s.written)
+pub stands_left : (way : TextPrinting) (kept : ℕ) (remaining now old new before errors : Option (List ℕ)) (cutter : CutterValue) (tally : Tally) →
+    Stands way kept remaining now old new before errors cutter tally → LeavesPieces way kept remaining old new before errors
+stands_left way kept remaining now old new before errors cutter tally s =
+    left_of_reader way kept remaining now old new before errors s.bytes s.rest s.ended [] s.judgments s.taken (subst (λ es. IsSplit s.bytes es s.rest) (sym (append-nil s.ended)) s.cut) s.are_judgments
+    (whole_written old new (pieces_text way 1 s.ended s.judgments) s.written) (whole_written before errors (pieces_notes way kept 1 s.judgments) s.noted)
 
 -- the number of the next piece
 next_piece : (tally : Tally) (judgments : List Judgment) → Counts tally judgments → suc tally.traces ≡ 1 + length judgments
@@ -92,6 +97,27 @@ texts_after : (way : TextPrinting) (tally : Tally) (pieces others : List (List �
     pieces_text way 1 pieces judgments ++ pieces_text way (suc tally.traces) others more ≡ pieces_text way 1 (pieces ++ others) (judgments ++ more)
 texts_after way tally pieces others judgments more counts are =
     ap (λ n. pieces_text way 1 pieces judgments ++ pieces_text way n others more) (next_piece tally judgments counts) ∙ sym (pieces_text-append way 1 pieces others judgments more are)
+
+-- the notes on more pieces
+notes_after : (way : TextPrinting) (kept : ℕ) (tally : Tally) (judgments more : List Judgment) → Counts tally judgments →
+    pieces_notes way kept 1 judgments ++ pieces_notes way (kept + tally.violations) (suc tally.traces) more ≡ pieces_notes way kept 1 (judgments ++ more)
+notes_after way kept tally judgments more counts =
+    ap₂ (λ k n. pieces_notes way kept 1 judgments ++ pieces_notes way k n more) (ap (λ n. kept + n) counts.violations) (next_piece tally judgments counts)
+    ∙ sym (pieces_notes-append way kept 1 judgments more)
+
+noted_more : (way : TextPrinting) (kept : ℕ) (tally : Tally) (judgments more : List Judgment) (before mid after : Option (List ℕ)) → Counts tally judgments →
+    Appends before mid (pieces_notes way kept 1 judgments) → Appends mid after (pieces_notes way (kept + tally.violations) (suc tally.traces) more) →
+    Appends before after (pieces_notes way kept 1 (judgments ++ more))
+noted_more way kept tally judgments more before mid after counts first second =
+    subst (Appends before after) (notes_after way kept tally judgments more counts)
+    (Appends-trans before mid after (pieces_notes way kept 1 judgments) (pieces_notes way (kept + tally.violations) (suc tally.traces) more) first second)
+
+some_noted_more : (way : TextPrinting) (kept : ℕ) (tally : Tally) (judgments more : List Judgment) (before mid after : Option (List ℕ)) → Counts tally judgments →
+    Appends before mid (pieces_notes way kept 1 judgments) → AppendsPrefix mid after (pieces_notes way (kept + tally.violations) (suc tally.traces) more) →
+    AppendsPrefix before after (pieces_notes way kept 1 (judgments ++ more))
+some_noted_more way kept tally judgments more before mid after counts first second =
+    subst (AppendsPrefix before after) (notes_after way kept tally judgments more counts)
+    (prefix_after before mid after (pieces_notes way kept 1 judgments) (pieces_notes way (kept + tally.violations) (suc tally.traces) more) first second)
 
 -- what was kept of these pieces, and of the first of them
 firsts_are : (limit : ℕ) (pieces : List (Vec ℕ)) (ended : List (List ℕ)) → limit ≡ trace_read_limit → rows pieces ≡ map (λ piece. take limit piece) ended → rows pieces ≡ firsts ended
@@ -127,10 +153,10 @@ prefix_more way tally pieces kept others judgments more old mid new counts are s
     (subst (AppendsPrefix mid new) (printed_of_kept way (suc tally.traces) kept others more same also) second))
 
 -- a chunk was read, cut and told
-pub chunk_told : (way : TextPrinting) (remaining before now old mid new : Option (List ℕ)) (cutter after : CutterValue) (tally counted : Tally) (chunk : List ℕ) (pieces : List (Vec ℕ)) →
-    Stands way remaining before old mid cutter tally → Consumes before now chunk → ((bytes : List ℕ) → IsAt cutter bytes → Cuts cutter after bytes chunk pieces) →
-    WroteAll way tally counted (rows pieces) mid new → Stands way remaining now old new after counted
-chunk_told way remaining before now old mid new cutter after tally counted chunk pieces s taken cuts wrote =
+pub chunk_told : (way : TextPrinting) (kept : ℕ) (remaining before now old mid new e f g : Option (List ℕ)) (cutter after : CutterValue) (tally counted : Tally) (chunk : List ℕ) (pieces : List (Vec ℕ)) →
+    Stands way kept remaining before old mid e f cutter tally → Consumes before now chunk → ((bytes : List ℕ) → IsAt cutter bytes → Cuts cutter after bytes chunk pieces) →
+    WroteAll way kept tally counted (rows pieces) mid new f g → Stands way kept remaining now old new e g after counted
+chunk_told way number remaining before now old mid new e f g cutter after tally counted chunk pieces s taken cuts wrote =
     let c = cuts s.rest s.at in
     let kept = firsts_are cutter.limit pieces c.ended s.limit c.kept in
     let are = wrote.are_judgments in
@@ -146,23 +172,25 @@ chunk_told way remaining before now old mid new cutter after tally counted chunk
       are_judgments = AreJudgments-append way.printing.method s.ended c.ended s.judgments wrote.judgments s.are_judgments (said_of_kept way.printing.method (rows pieces) c.ended wrote.judgments kept are);
       counts = wrote.counts s.judgments s.counts;
       written = written_more way tally s.ended (rows pieces) c.ended s.judgments wrote.judgments old mid new s.counts s.are_judgments kept are s.written wrote.written;
+      noted = noted_more way number tally s.judgments wrote.judgments e f g s.counts s.noted wrote.noted;
     }
 
 -- a fault while it was told
-pub chunk_left : (way : TextPrinting) (remaining before now old mid new : Option (List ℕ)) (cutter after : CutterValue) (tally : Tally) (chunk : List ℕ) (pieces : List (Vec ℕ)) →
-    Stands way remaining before old mid cutter tally → Consumes before now chunk → ((bytes : List ℕ) → IsAt cutter bytes → Cuts cutter after bytes chunk pieces) →
-    WroteSome way tally (rows pieces) mid new → LeavesPieces way remaining old new
-chunk_left way remaining before now old mid new cutter after tally chunk pieces s taken cuts wrote =
+pub chunk_left : (way : TextPrinting) (kept : ℕ) (remaining before now old mid new e f g : Option (List ℕ)) (cutter after : CutterValue) (tally : Tally) (chunk : List ℕ) (pieces : List (Vec ℕ)) →
+    Stands way kept remaining before old mid e f cutter tally → Consumes before now chunk → ((bytes : List ℕ) → IsAt cutter bytes → Cuts cutter after bytes chunk pieces) →
+    WroteSome way kept tally (rows pieces) mid new f g → LeavesPieces way kept remaining old new e g
+chunk_left way number remaining before now old mid new e f g cutter after tally chunk pieces s taken cuts wrote =
     let c = cuts s.rest s.at in
     let told = take wrote.count c.ended in
     let untold = drop wrote.count c.ended in
     let kept = some_firsts_are cutter.limit wrote.count pieces c.ended s.limit c.kept in
     let are = wrote.are_judgments in
     let same : s.ended ++ c.ended ≡ (s.ended ++ told) ++ untold = ap (λ es. s.ended ++ es) (sym (take-append-drop wrote.count c.ended)) ∙ sym (append_assoc s.ended told untold) in
-    left_of_reader way remaining now old new (s.bytes ++ chunk) c.rest (s.ended ++ told) untold (s.judgments ++ wrote.judgments) (Consumes-trans remaining before now s.bytes chunk s.taken taken)
+    left_of_reader way number remaining now old new e g (s.bytes ++ chunk) c.rest (s.ended ++ told) untold (s.judgments ++ wrote.judgments) (Consumes-trans remaining before now s.bytes chunk s.taken taken)
     (subst (λ es. IsSplit (s.bytes ++ chunk) es c.rest) same (cut_joined s.bytes chunk s.rest c.rest s.ended c.ended s.cut c.cut))
     (AreJudgments-append way.printing.method s.ended told s.judgments wrote.judgments s.are_judgments (said_of_kept way.printing.method (take wrote.count (rows pieces)) told wrote.judgments kept are))
     (prefix_more way tally s.ended (take wrote.count (rows pieces)) told s.judgments wrote.judgments old mid new s.counts s.are_judgments kept are s.written wrote.written)
+    (some_noted_more way number tally s.judgments wrote.judgments e f g s.counts s.noted wrote.noted)
 
 -- the first of these bytes
 pub front_taken : (bytes : List ℕ) (n : ℕ) (now : Option (List ℕ)) → Consumes (prepend_known bytes now) (prepend_known (drop n bytes) now) (take n bytes)
@@ -170,9 +198,9 @@ front_taken bytes n None = tt
 front_taken bytes n (Some rest) = ap (λ t. t ++ rest) (sym (take-append-drop n bytes)) ∙ append_assoc (take n bytes) (drop n bytes) rest
 
 -- the same of a reader that has other bytes left
-stands_taken : (way : TextPrinting) (remaining before now old new : Option (List ℕ)) (cutter : CutterValue) (tally : Tally) (s : Stands way remaining before old new cutter tally) →
-    Consumes remaining now s.bytes → Stands way remaining now old new cutter tally
-stands_taken way remaining before now old new cutter tally s taken = record {
+stands_taken : (way : TextPrinting) (kept : ℕ) (remaining before now old new e f : Option (List ℕ)) (cutter : CutterValue) (tally : Tally) (s : Stands way kept remaining before old new e f cutter tally) →
+    Consumes remaining now s.bytes → Stands way kept remaining now old new e f cutter tally
+stands_taken way kept remaining before now old new e f cutter tally s taken = record {
   bytes = s.bytes;
   taken = taken;
   ended = s.ended;
@@ -184,13 +212,14 @@ stands_taken way remaining before now old new cutter tally s taken = record {
   are_judgments = s.are_judgments;
   counts = s.counts;
   written = s.written;
+  noted = s.noted;
 }
 
 -- a chunk was read, of which nothing is cut yet
-pub stands_given : (way : TextPrinting) (remaining before now old new : Option (List ℕ)) (cutter : CutterValue) (tally : Tally) (chunk : List ℕ) → Stands way remaining before old new cutter tally →
-    Consumes before now chunk → Stands way remaining (prepend_known chunk now) old new cutter tally
-stands_given way remaining before now old new cutter tally chunk s taken =
-    stands_taken way remaining before (prepend_known chunk now) old new cutter tally s (given remaining before now s.bytes chunk s.taken taken)
+pub stands_given : (way : TextPrinting) (kept : ℕ) (remaining before now old new e f : Option (List ℕ)) (cutter : CutterValue) (tally : Tally) (chunk : List ℕ) →
+    Stands way kept remaining before old new e f cutter tally → Consumes before now chunk → Stands way kept remaining (prepend_known chunk now) old new e f cutter tally
+stands_given way kept remaining before now old new e f cutter tally chunk s taken =
+    stands_taken way kept remaining before (prepend_known chunk now) old new e f cutter tally s (given remaining before now s.bytes chunk s.taken taken)
   where
     given : (remaining before now : Option (List ℕ)) (bytes chunk : List ℕ) → Consumes remaining before bytes → Consumes before now chunk → Consumes remaining (prepend_known chunk now) bytes
     given None before now bytes chunk first second = tt
@@ -199,10 +228,10 @@ stands_given way remaining before now old new cutter tally chunk s taken =
     given (Some all) (Some xs) (Some ys) bytes chunk first second = first ∙ ap (λ t. bytes ++ t) second
 
 -- a read that gave nothing
-pub stands_later : (way : TextPrinting) (remaining before now old new : Option (List ℕ)) (cutter : CutterValue) (tally : Tally) (chunk : List ℕ) (count : ℕ) → count ≡ 0 →
-    Stands way remaining before old new cutter tally → Consumes before now (take count chunk) → Stands way remaining now old new cutter tally
-stands_later way remaining before now old new cutter tally chunk count none s taken =
-    stands_taken way remaining before now old new cutter tally s
+pub stands_later : (way : TextPrinting) (kept : ℕ) (remaining before now old new e f : Option (List ℕ)) (cutter : CutterValue) (tally : Tally) (chunk : List ℕ) (count : ℕ) → count ≡ 0 →
+    Stands way kept remaining before old new e f cutter tally → Consumes before now (take count chunk) → Stands way kept remaining now old new e f cutter tally
+stands_later way kept remaining before now old new e f cutter tally chunk count none s taken =
+    stands_taken way kept remaining before now old new e f cutter tally s
     (subst (Consumes remaining now) (ap (λ n. s.bytes ++ take n chunk) none ∙ append-nil s.bytes) (Consumes-trans remaining before now s.bytes (take count chunk) s.taken taken))
 
 -- ---- at the end of the stream
@@ -210,18 +239,18 @@ stands_later way remaining before now old new cutter tally chunk count none s ta
 all_read : (remaining now : Option (List ℕ)) (bytes : List ℕ) → Consumes remaining now bytes → IsAtEnd now → IfSome remaining (λ all. bytes ≡ all)
 all_read remaining now bytes taken end = Consumes-whole remaining now bytes (λ all. bytes ≡ all) taken end refl
 
-pub all_taken : (way : TextPrinting) (remaining now old new : Option (List ℕ)) (cutter : CutterValue) (tally : Tally) → Stands way remaining now old new cutter tally → IsAtEnd now →
+pub all_taken : (way : TextPrinting) (kept : ℕ) (remaining now old new e f : Option (List ℕ)) (cutter : CutterValue) (tally : Tally) → Stands way kept remaining now old new e f cutter tally → IsAtEnd now →
     IfSome remaining (λ all. Consumes remaining now all)
-all_taken way remaining now old new cutter tally s end = Consumes-whole remaining now s.bytes (λ all. Consumes remaining now all) s.taken end s.taken
+all_taken way kept remaining now old new e f cutter tally s end = Consumes-whole remaining now s.bytes (λ all. Consumes remaining now all) s.taken end s.taken
 
 pieces_at_end : (stream rest : List ℕ) (ended : List (List ℕ)) → IsSplit stream ended rest → ArePieces stream (ended ++ last_piece rest)
 pieces_at_end stream rest ended cut = record { ended = ended; rest = rest; cut = cut; pieces_are = refl }
 
 -- the last piece was told
-pub last_told : (way : TextPrinting) (remaining now old mid new : Option (List ℕ)) (cutter : CutterValue) (tally counted : Tally) (pieces : List (Vec ℕ)) →
-    Stands way remaining now old mid cutter tally → IsAtEnd now → ((rest : List ℕ) → IsAt cutter rest → rows pieces ≡ map (λ piece. take cutter.limit piece) (last_piece rest)) →
-    WroteAll way tally counted (rows pieces) mid new → Told way remaining old new counted
-last_told way remaining now old mid new cutter tally counted pieces s end last wrote =
+pub last_told : (way : TextPrinting) (kept : ℕ) (remaining now old mid new e f g : Option (List ℕ)) (cutter : CutterValue) (tally counted : Tally) (pieces : List (Vec ℕ)) →
+    Stands way kept remaining now old mid e f cutter tally → IsAtEnd now → ((rest : List ℕ) → IsAt cutter rest → rows pieces ≡ map (λ piece. take cutter.limit piece) (last_piece rest)) →
+    WroteAll way kept tally counted (rows pieces) mid new f g → Told way kept remaining old new e g counted
+last_told way number remaining now old mid new e f g cutter tally counted pieces s end last wrote =
     let kept = firsts_are cutter.limit pieces (last_piece s.rest) s.limit (last s.rest s.at) in
     let are = wrote.are_judgments in
     record {
@@ -235,26 +264,29 @@ last_told way remaining now old mid new cutter tally counted pieces s end last w
       };
       counts = wrote.counts s.judgments s.counts;
       written = written_more way tally s.ended (rows pieces) (last_piece s.rest) s.judgments wrote.judgments old mid new s.counts s.are_judgments kept are s.written wrote.written;
+      noted = noted_more way number tally s.judgments wrote.judgments e f g s.counts s.noted wrote.noted;
     }
 
 -- a fault while it was told
-pub last_left : (way : TextPrinting) (remaining now old mid new : Option (List ℕ)) (cutter : CutterValue) (tally : Tally) (pieces : List (Vec ℕ)) → Stands way remaining now old mid cutter tally →
-    IsAtEnd now → ((rest : List ℕ) → IsAt cutter rest → rows pieces ≡ map (λ piece. take cutter.limit piece) (last_piece rest)) → WroteSome way tally (rows pieces) mid new →
-    LeavesPieces way remaining old new
-last_left way remaining now old mid new cutter tally pieces s end last wrote =
+pub last_left : (way : TextPrinting) (kept : ℕ) (remaining now old mid new e f g : Option (List ℕ)) (cutter : CutterValue) (tally : Tally) (pieces : List (Vec ℕ)) →
+    Stands way kept remaining now old mid e f cutter tally → IsAtEnd now → ((rest : List ℕ) → IsAt cutter rest → rows pieces ≡ map (λ piece. take cutter.limit piece) (last_piece rest)) →
+    WroteSome way kept tally (rows pieces) mid new f g → LeavesPieces way kept remaining old new e g
+last_left way number remaining now old mid new e f g cutter tally pieces s end last wrote =
     let told = take wrote.count (last_piece s.rest) in
     let untold = drop wrote.count (last_piece s.rest) in
     let kept = some_firsts_are cutter.limit wrote.count pieces (last_piece s.rest) s.limit (last s.rest s.at) in
     let are = wrote.are_judgments in
     let same : s.ended ++ last_piece s.rest ≡ (s.ended ++ told) ++ untold =
     ap (λ es. s.ended ++ es) (sym (take-append-drop wrote.count (last_piece s.rest))) ∙ sym (append_assoc s.ended told untold) in
-    of_reader way remaining old new s.bytes (s.ended ++ told) untold (s.judgments ++ wrote.judgments) (all_read remaining now s.bytes s.taken end)
+    of_reader way number remaining old new e g s.bytes (s.ended ++ told) untold (s.judgments ++ wrote.judgments) (all_read remaining now s.bytes s.taken end)
     (subst (ArePieces s.bytes) same (pieces_at_end s.bytes s.rest s.ended s.cut))
     (AreJudgments-append way.printing.method s.ended told s.judgments wrote.judgments s.are_judgments (said_of_kept way.printing.method (take wrote.count (rows pieces)) told wrote.judgments kept are))
     (prefix_more way tally s.ended (take wrote.count (rows pieces)) told s.judgments wrote.judgments old mid new s.counts s.are_judgments kept are s.written wrote.written)
+    (some_noted_more way number tally s.judgments wrote.judgments e f g s.counts s.noted wrote.noted)
 
 -- ---- the results of a text
 
 -- what was told
-pub told_results : (way : TextPrinting) (remaining old new : Option (List ℕ)) (tally : Tally) (t : Told way remaining old new tally) → ReadsAs remaining (λ stream. AreResults way.printing.method stream t.pieces t.judgments)
-told_results way remaining old new tally t = reads_whole (λ s. AreResults way.printing.method s t.pieces t.judgments) remaining t.stream t.all t.are_results
+pub told_results : (way : TextPrinting) (kept : ℕ) (remaining old new e f : Option (List ℕ)) (tally : Tally) (t : Told way kept remaining old new e f tally) →
+    ReadsAs remaining (λ stream. AreResults way.printing.method stream t.pieces t.judgments)
+told_results way kept remaining old new e f tally t = reads_whole (λ s. AreResults way.printing.method s t.pieces t.judgments) remaining t.stream t.all t.are_results

@@ -1,11 +1,13 @@
 -- Lemmas on what is said and printed of pieces, one piece more.
-use Rattle.std.proofs.Common.{◌≡◌, Ok, Result, IfOk, IfErr, ℕ, suc, ◌+◌, ◌<◌, List, [], ◌∷◌, ◌++◌, length, map, take, drop, get_or, refl, ap, sym, subst, ◌∙◌, arith, append_assoc, Err}
+use Rattle.std.proofs.Common.{◌≡◌, Ok, Result, IfOk, IfErr, ℕ, suc, ◌+◌, ◌<◌, List, [], ◌∷◌, ◌++◌, Bool, true, false, cond, length, map, take, drop, get_or, refl, ap, ap₂, sym, subst, ◌∙◌, arith, append_assoc, Err}
 use Rattle.std.specs.Prelude.{Option}
+use Rattle.std.specs.List.{count_by}
 use Rattle.std.specs.Io.KnownBytes.{Appends}
 use Rattle.std.proofs.KnownBytes.{Appends-nil, Appends-trans}
 use Rattle.std.specs.Global.{Vec}
 use Rattle.std.proofs.Math.Seq.{take-append_seam}
 use Rattle.std.proofs.lemmas.List.{append-nil, get_or-map, length-map, length_push, take_more}
+use Rattle.std.proofs.lemmas.List.Sums.{sum_by-append, sum_by-cons}
 use Rattle.trace_batches.specs.Internal.Cutters.{rows}
 use Rattle.trace_judging.specs.declared.faults.Fault.{Fault}
 use Rattle.trace_judging.specs.declared.faults.Fault.TheVariants.{NoThread}
@@ -15,8 +17,8 @@ use Rattle.trace_batches.specs.declared.batches.BatchMethod.{BatchMethod}
 use Rattle.trace_batches.specs.declared.judgments.Judgment.{Judgment}
 use Rattle.trace_batches.specs.declared.judgments.Judgment.TheVariants.{NoViolation, Violation, Consistent, Undecided, Refused}
 use Rattle.trace_batches.specs.declared.tallies.Tally.{Tally}
-use Rattle.trace_batches.specs.Batches.{Counts, IsBatchFault, TextPrinting, piece_text, pieces_text}
-use Rattle.trace_batches.specs.Judgments.{AreJudgments, IsJudgment}
+use Rattle.trace_batches.specs.Batches.{Counts, IsBatchFault, TextPrinting, count_violations, kept_with, piece_note, piece_text, pieces_notes, pieces_text}
+use Rattle.trace_batches.specs.Judgments.{AreJudgments, IsJudgment, says_violation}
 use Rattle.trace_batches.specs.Internal.Progress.{AreJudged, IsJobOf, IsOutcome, WroteAll, WroteSome}
 use Rattle.trace_batches.proofs.JudgmentFacts.{firsts, kept_violation}
 use Rattle.trace_judging.specs.Limits.{trace_read_limit}
@@ -63,6 +65,59 @@ pieces_text-push : (way : TextPrinting) (number : ℕ) (ps : List (List ℕ)) (r
 pieces_text-push way number ps rs p r are =
     pieces_text-append way number ps (p ∷ []) rs (r ∷ []) are ∙ ap (λ t. pieces_text way number ps rs ++ t) (append-nil (piece_text way (number + length rs) p r))
 
+-- ---- the notes
+
+-- how many violations there are, with one judgment more, and of both
+pub violations_with : (kept : ℕ) (r : Judgment) → kept_with kept r ≡ kept + cond (says_violation r) 1 0
+violations_with kept r = go (says_violation r)
+  where
+    go : (b : Bool) → ◌≡◌ {A = ℕ} (cond b (kept + 1) kept) (kept + cond b 1 0)
+    go true = refl
+    go false = omega arith
+
+violations-cons : (r : Judgment) (rs : List Judgment) → count_violations (r ∷ rs) ≡ cond (says_violation r) 1 0 + count_violations rs
+violations-cons r rs = sum_by-cons (λ j. cond (says_violation j) 1 0) r rs
+
+pub violations-append : (rs ss : List Judgment) → count_violations (rs ++ ss) ≡ count_violations rs + count_violations ss
+violations-append rs ss = sum_by-append (λ j. cond (says_violation j) 1 0) rs ss
+
+violations-push : (rs : List Judgment) (r : Judgment) → count_violations (rs ++ r ∷ []) ≡ kept_with (count_violations rs) r
+violations-push rs r =
+    let both = violations-append rs (r ∷ []) in
+    let one = violations-cons r [] in
+    let none : count_violations [] ≡ 0 = refl in
+    let this = violations_with (count_violations rs) r in
+    omega (arith, both, one, none, this)
+
+pub pieces_notes-append : (way : TextPrinting) (kept number : ℕ) (rs ss : List Judgment) →
+    pieces_notes way kept number (rs ++ ss) ≡ pieces_notes way kept number rs ++ pieces_notes way (kept + count_violations rs) (number + length rs) ss
+pieces_notes-append way kept number [] ss =
+    let none : count_violations [] ≡ 0 = refl in
+    ap₂ (λ k n. pieces_notes way k n ss) (omega (arith, none)) (omega arith)
+pieces_notes-append way kept number (r ∷ rs) ss =
+    let next = kept_with kept r in
+    let this = violations_with kept r in
+    let more = violations-cons r rs in
+    let count : next + count_violations rs ≡ kept + count_violations (r ∷ rs) = omega (arith, this, more) in
+    ap (λ t. piece_note way next number r ++ t) (pieces_notes-append way next (suc number) rs ss)
+    ∙ sym (append_assoc (piece_note way next number r) (pieces_notes way next (suc number) rs) (pieces_notes way (next + count_violations rs) (suc number + length rs) ss))
+    ∙ ap₂ (λ k n. (piece_note way next number r ++ pieces_notes way next (suc number) rs) ++ pieces_notes way k n ss) count (omega arith)
+
+pieces_notes-push : (way : TextPrinting) (kept number : ℕ) (rs : List Judgment) (r : Judgment) →
+    pieces_notes way kept number (rs ++ r ∷ []) ≡ pieces_notes way kept number rs ++ piece_note way (kept_with (kept + count_violations rs) r) (number + length rs) r
+pieces_notes-push way kept number rs r =
+    let so_far = kept + count_violations rs in
+    pieces_notes-append way kept number rs (r ∷ []) ∙ ap (λ t. pieces_notes way kept number rs ++ t) (append-nil (piece_note way (kept_with so_far r) (number + length rs) r))
+
+-- the number of the text that is printed next
+next_kept : (kept before mid n : ℕ) (r : Judgment) → mid ≡ before + n → kept_with ((kept + before) + n) r ≡ kept + kept_with mid r
+next_kept kept before mid n r so_far =
+    let first = violations_with ((kept + before) + n) r in
+    let second = violations_with mid r in
+    omega (arith, so_far, first, second)
+
+-- ---- what was kept of pieces
+
 -- of the first bytes of a piece the same is printed as of the piece: all of a violation is kept
 kept_text : (way : TextPrinting) (number : ℕ) (p : List ℕ) (r : Judgment) → IsJudgment way.printing.method p r → piece_text way number (take trace_read_limit p) r ≡ piece_text way number p r
 kept_text way number p NoViolation is = refl
@@ -84,20 +139,28 @@ next_number before mid n traces = omega (arith, traces)
 -- ---- pieces, one after the other
 
 -- nothing of them
-pub wrote_none : (way : TextPrinting) (tally : Tally) (a : Option (List ℕ)) → WroteAll way tally tally [] a a
-wrote_none way tally a = record {
+pub wrote_none : (way : TextPrinting) (kept : ℕ) (tally : Tally) (a e : Option (List ℕ)) → WroteAll way kept tally tally [] a a e e
+wrote_none way kept tally a e = record {
   judgments = [];
   are_judgments = tt;
   counts = λ earlier counts. subst (Counts tally) (sym (append-nil earlier)) counts;
   traces = omega arith;
+  violations = (let none : count_violations [] ≡ 0 = refl in omega (arith, none));
   written = Appends-nil a;
+  noted = Appends-nil e;
 }
 
 -- one more
-pub wrote_more : (way : TextPrinting) (before mid after : Tally) (pieces : List (List ℕ)) (piece : List ℕ) (judgment : Judgment) (a b c : Option (List ℕ)) → WroteAll way before mid pieces a b →
-    IsJudgment way.printing.method piece judgment → ((judgments : List Judgment) → Counts mid judgments → Counts after (judgments ++ judgment ∷ [])) → after.traces ≡ mid.traces + 1 →
-    Appends b c (piece_text way (mid.traces + 1) piece judgment) → WroteAll way before after (pieces ++ piece ∷ []) a c
-wrote_more way before mid after pieces piece judgment a b c so_far is counted more text =
+pub wrote_more : (way : TextPrinting) (kept : ℕ) (before mid after : Tally) (pieces : List (List ℕ)) (piece : List ℕ) (judgment : Judgment) (a b c e f g : Option (List ℕ)) →
+    WroteAll way kept before mid pieces a b e f → IsJudgment way.printing.method piece judgment → ((judgments : List Judgment) → Counts mid judgments → Counts after (judgments ++ judgment ∷ [])) →
+    after.traces ≡ mid.traces + 1 → after.violations ≡ kept_with mid.violations judgment → Appends b c (piece_text way (mid.traces + 1) piece judgment) →
+    Appends f g (piece_note way (kept + kept_with mid.violations judgment) (mid.traces + 1) judgment) → WroteAll way kept before after (pieces ++ piece ∷ []) a c e g
+wrote_more way kept before mid after pieces piece judgment a b c e f g so_far is counted more also text note =
+    let others = so_far.judgments in
+    let some = so_far.violations in
+    let push = violations-push others judgment in
+    let here = violations_with mid.violations judgment in
+    let there = violations_with (count_violations others) judgment in
     let number = next_number before mid (length so_far.judgments) so_far.traces in
     let count = length_push so_far.judgments judgment in
     let one = so_far.traces in
@@ -106,6 +169,13 @@ wrote_more way before mid after pieces piece judgment a b c so_far is counted mo
       are_judgments = AreJudgments-push way.printing.method pieces so_far.judgments piece judgment so_far.are_judgments is;
       counts = λ earlier counts. subst (Counts after) (append_assoc earlier so_far.judgments (judgment ∷ [])) (counted (earlier ++ so_far.judgments) (so_far.counts earlier counts));
       traces = omega (arith, more, count, one);
+      violations = omega (arith, also, some, push, here, there);
+      noted =
+          subst (Appends e g)
+          (ap₂ (λ k n. pieces_notes way (kept + before.violations) (suc before.traces) others ++ piece_note way k n judgment)
+          (sym (next_kept kept before.violations mid.violations (count_violations others) judgment some)) (sym number)
+          ∙ sym (pieces_notes-push way (kept + before.violations) (suc before.traces) others judgment))
+          (Appends-trans e f g (pieces_notes way (kept + before.violations) (suc before.traces) others) (piece_note way (kept + kept_with mid.violations judgment) (mid.traces + 1) judgment) so_far.noted note);
       written =
           subst (Appends a c)
           (ap (λ n. pieces_text way (suc before.traces) pieces so_far.judgments ++ piece_text way n piece judgment) (sym number)
@@ -114,18 +184,22 @@ wrote_more way before mid after pieces piece judgment a b c so_far is counted mo
     }
 
 -- a fault before the next
-pub wrote_before : (way : TextPrinting) (before mid : Tally) (pieces : List (List ℕ)) (i : ℕ) (a b : Option (List ℕ)) → WroteAll way before mid (take i pieces) a b → WroteSome way before pieces a b
-wrote_before way before mid pieces i a b so_far = record {
+pub wrote_before : (way : TextPrinting) (kept : ℕ) (before mid : Tally) (pieces : List (List ℕ)) (i : ℕ) (a b e f : Option (List ℕ)) → WroteAll way kept before mid (take i pieces) a b e f →
+    WroteSome way kept before pieces a b e f
+wrote_before way kept before mid pieces i a b e f so_far = record {
   count = i;
   judgments = so_far.judgments;
   are_judgments = so_far.are_judgments;
   written = whole_written a b (pieces_text way (suc before.traces) (take i pieces) so_far.judgments) so_far.written;
+  noted = whole_written e f (pieces_notes way (kept + before.violations) (suc before.traces) so_far.judgments) so_far.noted;
 }
 
 -- a fault in what is printed of it
-pub wrote_some : (way : TextPrinting) (before mid : Tally) (pieces : List (List ℕ)) (i : ℕ) (judgment : Judgment) (a b c : Option (List ℕ)) → i < length pieces → WroteAll way before mid (take i pieces) a b →
-    IsJudgment way.printing.method (get_or pieces i []) judgment → AppendsPrefix b c (piece_text way (mid.traces + 1) (get_or pieces i []) judgment) → WroteSome way before pieces a c
-wrote_some way before mid pieces i judgment a b c inside so_far is text =
+pub wrote_some : (way : TextPrinting) (kept : ℕ) (before mid : Tally) (pieces : List (List ℕ)) (i : ℕ) (judgment : Judgment) (a b c e f g : Option (List ℕ)) → i < length pieces →
+    WroteAll way kept before mid (take i pieces) a b e f → IsJudgment way.printing.method (get_or pieces i []) judgment → AppendsPrefix b c (piece_text way (mid.traces + 1) (get_or pieces i []) judgment) →
+    AppendsPrefix f g (piece_note way (kept + kept_with mid.violations judgment) (mid.traces + 1) judgment) → WroteSome way kept before pieces a c e g
+wrote_some way kept before mid pieces i judgment a b c e f g inside so_far is text note =
+    let others = so_far.judgments in
     let number = next_number before mid (length so_far.judgments) so_far.traces in
     let piece = get_or pieces i [] in
     let judgments = so_far.judgments ++ judgment ∷ [] in
@@ -140,6 +214,12 @@ wrote_some way before mid pieces i judgment a b c inside so_far is text =
           ∙ sym (pieces_text-push way (suc before.traces) (take i pieces) so_far.judgments piece judgment so_far.are_judgments)
           ∙ ap (λ ps. pieces_text way (suc before.traces) ps judgments) same)
           (prefix_after a b c (pieces_text way (suc before.traces) (take i pieces) so_far.judgments) (piece_text way (mid.traces + 1) piece judgment) so_far.written text);
+      noted =
+          subst (AppendsPrefix e g)
+          (ap₂ (λ k n. pieces_notes way (kept + before.violations) (suc before.traces) others ++ piece_note way k n judgment)
+          (sym (next_kept kept before.violations mid.violations (count_violations others) judgment so_far.violations)) (sym number)
+          ∙ sym (pieces_notes-push way (kept + before.violations) (suc before.traces) others judgment))
+          (prefix_after e f g (pieces_notes way (kept + before.violations) (suc before.traces) others) (piece_note way (kept + kept_with mid.violations judgment) (mid.traces + 1) judgment) so_far.noted note);
     }
 
 -- ---- the jobs

@@ -7,5 +7,6 @@ pub mod PieceFacts
 pub mod PieceReaderFacts
 pub mod TallyFacts
 mod PieceReports
+pub mod ResultFacts
 mod TracePieces
 pub mod WholeFacts

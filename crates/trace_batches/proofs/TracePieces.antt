@@ -1,6 +1,6 @@
 -- The texts of traces one after another are cut into these texts: of the lines of a trace's text the last one alone is `end`.
 use Rattle.std.proofs.Common.{◌≡◌, ◌≢◌, ℕ, zero, suc, ◌+◌, ◌/◌, ◌%◌, Bool, true, false, ltb, eqb, List, [], ◌∷◌, ◌++◌, get_or, map, refl, ap, sym, subst, ◌∙◌, arith, append_assoc}
-use Rattle.std.specs.Prelude.{◌↔◌, Option, codes, cond}
+use Rattle.std.specs.Prelude.{◌↔◌, Option, codes, cond, if◌then◌else◌}
 use Rattle.std.specs.Fmt.{decimal, digit_glyph, digits, digits_onto}
 use Rattle.std.specs.List.{All, concat, flat_map, join_with_byte, list_all}
 use Rattle.std.proofs.lemmas.Bool.Decides.{nat_tests}
@@ -21,7 +21,7 @@ use Rattle.tso_text.specs.Printed.{trace_header, entry_tokens, items_text, model
 use Rattle.trace_batches.specs.declared.batches.BatchPrinting.{BatchPrinting}
 use Rattle.trace_batches.specs.declared.judgments.Judgment.{Judgment}
 use Rattle.trace_batches.specs.declared.tallies.BatchVerdict.{BatchVerdict}
-use Rattle.trace_batches.specs.Batches.{AreResultsOfAll, IsBatch, TextResults, all_judgments, head_text, known_texts, last_line, last_text, pieces_text, results_text, results_texts, under_name}
+use Rattle.trace_batches.specs.Batches.{AreResultsOfAll, IsBatch, TextResults, all_judgments, head_text, known_texts, last_line, last_text, pieces_text, results_text, results_texts, under_name, unread_text_line}
 use Rattle.trace_batches.specs.Judgments.{AreJudgments}
 
 -- ---- bytes that end no line
@@ -183,14 +183,18 @@ texts_of_traces printing name traces text notes verdict batch = go batch.all bat
     go [] are whole = absurd are
     go (one ∷ two ∷ all) are whole = absurd are.1
     go (one ∷ []) are whole =
-        let results = are.0.1.of_all in
+        let results = are.0.2.of_all in
         let same = (pieces_of_traces traces one.pieces).0 results.are_pieces in
-        let last = last_text printing (last_line printing one.judgments) in (
+        let last = last_text printing (last_line printing one.judgments) in
+        let texts = pieces_text (under_name printing one.name) 1 one.pieces one.judgments in
+        let read : results_text printing one ≡ texts =
+        ap (λ (b : Bool). if b then last_text printing (unread_text_line printing one.name) else texts) are.0.1 in (
           one.judgments,
           subst (λ (pieces : List (List ℕ)). AreJudgments printing.method pieces one.judgments) same results.are_judgments,
           whole
               ∙ ap (λ js. head_text printing ++ (results_text printing one ++ [] ++ last_text printing (last_line printing js))) (append-nil one.judgments)
               ∙ ap (λ t. head_text printing ++ (t ++ last)) (append-nil (results_text printing one))
+              ∙ ap (λ t. head_text printing ++ (t ++ last)) read
               ∙ ap (λ (pieces : List (List ℕ)). head_text printing ++ (pieces_text (under_name printing one.name) 1 pieces one.judgments ++ last)) same
               ∙ ap (λ (n : Option (List ℕ)). head_text printing ++ (pieces_text (under_name printing n) 1 (map trace_text traces) one.judgments ++ last)) are.0.0,
         )

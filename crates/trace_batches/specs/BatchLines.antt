@@ -140,6 +140,41 @@ tally_of judgments = record {
 abbrev pub total_line : BatchFormat → BatchMethod → List Judgment → List ℕ
 total_line format method judgments = total_text format method (tally_of judgments)
 
+-- ---- a text that can't be read
+
+-- in JSON
+unfoldable pub unread_json : List ℕ → List ℕ
+unread_json label = codes "{" ++ (label ++ codes "\"fault\":\"Read\"}\n")
+
+-- in JUnit's XML
+unfoldable pub unread_case : List ℕ → List ℕ
+unread_case label = codes "<testcase classname=\"" ++ (label ++ codes "\" name=\"text\"><error message=\"FAULT Read\"/></testcase>\n")
+
+-- what stands in place of the lines of a text that has this label
+abbrev pub unread_line : BatchFormat → List ℕ → List ℕ
+unread_line Words label = label ++ codes "FAULT Read\n"
+unread_line Json label = unread_json label
+unread_line Junit label = unread_case label
+
+-- the last note, where a text can't be read
+abbrev pub fault_text : Bool → List ℕ
+fault_text is_unread = if is_unread then codes "FAULT Read\n" else []
+
+-- ---- which traces are printed
+
+-- in words
+unfoldable pub kept_words : List ℕ → ℕ → ℕ → List ℕ
+kept_words label kept number = label ++ (codes "kept " ++ (decimal kept ++ (codes " trace " ++ (decimal number ++ codes "\n"))))
+
+-- in JSON
+unfoldable pub kept_json : List ℕ → ℕ → ℕ → List ℕ
+kept_json label kept number = codes "{" ++ (label ++ (codes "\"kept\":" ++ (decimal kept ++ (codes ",\"trace\":" ++ (decimal number ++ codes "}\n")))))
+
+-- the first number is that of the text among those that are printed, the other that of the trace in the text that has this label
+abbrev pub kept_line : BatchFormat → List ℕ → ℕ → ℕ → List ℕ
+kept_line Json label kept number = kept_json label kept number
+kept_line format label kept number = kept_words label kept number
+
 -- ---- whether as many were judged as have to be
 
 -- so many are fewer than have to be

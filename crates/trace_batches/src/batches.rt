@@ -4,7 +4,8 @@ ghost use Rattle.std.specs.Io.KnownBytes.{Appends, Consumes, IsAtEnd, prepend_kn
 ghost use Rattle.trace_batches.specs.Internal.Cutters.{IsAt, rows};
 ghost use Rattle.trace_batches.specs.Pieces.{last_piece};
 ghost use Rattle.trace_judging.specs.Streams.{AppendsPrefix};
-ghost use Rattle.trace_batches.specs.Batches.{Counts, IsBatchFault, piece_text, violating_text};
+ghost use Rattle.trace_batches.specs.Batches.{Counts, IsBatchFault, kept_note, kept_with, last_format, piece_note, piece_text, violating_text};
+ghost use Rattle.trace_batches.specs.BatchLines.{kept_line};
 ghost use Rattle.trace_batches.specs.Internal.Progress.{AreJudged, LeavesPieces, Stands, Told, WroteAll, WroteSome, printing_by};
 ghost use Rattle.trace_batches.specs.declared.judgments.Judgment.{Judgment};
 
@@ -12,8 +13,9 @@ use crate::cutters::Cutter;
 use crate::jobs::{Job, judge_all};
 use crate::judgments::Judgment;
 use crate::lines::written_line;
+use crate::notes::kept_line;
 use crate::streams::{read_some, write_flushed};
-use crate::tallies::Tally;
+use crate::tallies::{Tally, sum};
 use progress_meters::Meter;
 use std::alloc::Global;
 use std::io::{Read, Write};
@@ -84,6 +86,8 @@ pub(crate) struct TextJudging<'a> {
     pub(crate) options: BatchOptions,
     /// What stands in each line of the text.
     pub(crate) label: &'a str,
+    /// How many texts of violations were printed before this text.
+    pub(crate) kept: u64,
 }
 
 /// The cutter and the tally of a text.
@@ -93,38 +97,43 @@ struct Progress {
     tally: Tally,
 }
 
-/// Judges a stream, and writes what is printed of its pieces, numbered from 1: how many there were.
-pub(crate) fn judge_pieces<H: Threads + Wait + Sync, M: Meter, R: Read, W: Write>(
+/// Judges a stream, and writes what is printed of its pieces, numbered from 1, and the notes on them: how many there were.
+pub(crate) fn judge_pieces<H: Threads + Wait + Sync, M: Meter, R: Read, W: Write, E: Write>(
     rt: &H,
     judging: &TextJudging<'_>,
     meter: &M,
     reader: &mut R,
     writer: &mut W,
+    errors: &mut E,
 ) -> Result<Tally, Fault>
     requires { 1 ≤ judging.now.options.workers }
-    ensures told { IfOk result (Told (printing_by judging.now) (R.remaining reader.old) (W.contents writer.old) (W.contents writer.new)) }
+    ensures told { IfOk result (Told (printing_by judging.now) judging.now.kept (R.remaining reader.old) (W.contents writer.old) (W.contents writer.new) (E.contents errors.old) (E.contents errors.new)) }
     ensures taken { IfOk result (λ _. IfSome (R.remaining reader.old) (λ all. Consumes (R.remaining reader.old) (R.remaining reader.new) all)) }
-    ensures left { OnErr result (LeavesPieces (printing_by judging.now) (R.remaining reader.old) (W.contents writer.old) (W.contents writer.new)) }
+    ensures left { OnErr result (LeavesPieces (printing_by judging.now) judging.now.kept (R.remaining reader.old) (W.contents writer.old) (W.contents writer.new) (E.contents errors.old) (E.contents errors.new)) }
     ensures fault { IfErr result IsBatchFault }
 {
-    let Progress { cutter, mut tally } = read_pieces(rt, judging, meter, reader, writer)?;
+    let Progress { cutter, mut tally } = read_pieces(rt, judging, meter, reader, writer, errors)?;
     let pieces = last_pieces(judging.alloc, cutter)?;
-    tell(rt, judging, meter, pieces, &mut tally, writer)?;
+    let count = pieces.len() as u64;
+    tell(rt, judging, pieces, &mut tally, writer, errors)?;
+    meter.advance(count);
     Ok(tally)
 }
 
-/// Reads a stream to its end, and writes what is printed of the pieces that end in it.
-fn read_pieces<H: Threads + Wait + Sync, M: Meter, R: Read, W: Write>(
+/// Reads a stream to its end, and writes what is printed of the pieces that end in it, and the notes on them. The meter hears how
+/// many there were before more is read.
+fn read_pieces<H: Threads + Wait + Sync, M: Meter, R: Read, W: Write, E: Write>(
     rt: &H,
     judging: &TextJudging<'_>,
     meter: &M,
     reader: &mut R,
     writer: &mut W,
+    errors: &mut E,
 ) -> Result<Progress, Fault>
     requires { 1 ≤ judging.now.options.workers }
-    ensures stands { IfOk result (λ p. Stands (printing_by judging.now) (R.remaining reader.old) (R.remaining reader.new) (W.contents writer.old) (W.contents writer.new) p.cutter p.tally) }
+    ensures stands { IfOk result (λ p. Stands (printing_by judging.now) judging.now.kept (R.remaining reader.old) (R.remaining reader.new) (W.contents writer.old) (W.contents writer.new) (E.contents errors.old) (E.contents errors.new) p.cutter p.tally) }
     ensures end { OnOk result (IsAtEnd (R.remaining reader.new)) }
-    ensures left { OnErr result (LeavesPieces (printing_by judging.now) (R.remaining reader.old) (W.contents writer.old) (W.contents writer.new)) }
+    ensures left { OnErr result (LeavesPieces (printing_by judging.now) judging.now.kept (R.remaining reader.old) (W.contents writer.old) (W.contents writer.new) (E.contents errors.old) (E.contents errors.new)) }
     ensures fault { IfErr result IsBatchFault }
 {
     let mut progress = Progress {
@@ -138,30 +147,32 @@ fn read_pieces<H: Threads + Wait + Sync, M: Meter, R: Read, W: Write>(
         if count == 0 {
             return Ok(progress);
         }
-        tell_chunk(rt, judging, meter, &mut progress, &chunk[..count], writer)?;
+        let before = progress.tally.traces;
+        tell_chunk(rt, judging, &mut progress, &chunk[..count], writer, errors)?;
+        meter.advance(progress.tally.traces.saturating_sub(before));
     }
     unreachable!()
 }
 
-/// Cuts the next bytes of a stream, and writes what is printed of the pieces that end in them.
-fn tell_chunk<H: Threads + Wait + Sync, M: Meter, W: Write>(
+/// Cuts the next bytes of a stream, and writes what is printed of the pieces that end in them, and the notes on them.
+fn tell_chunk<H: Threads + Wait + Sync, W: Write, E: Write>(
     rt: &H,
     judging: &TextJudging<'_>,
-    meter: &M,
     progress: &mut Progress,
     chunk: &[u8],
     writer: &mut W,
+    errors: &mut E,
 ) -> Result<(), Fault>
     requires { 1 ≤ judging.now.options.workers }
-    ensures stands { OnOk result ((remaining now old : Option (List ℕ)) → Stands (printing_by judging.now) remaining (prepend_known chunk.now now) old (W.contents writer.old) progress.old.cutter progress.old.tally → Stands (printing_by judging.now) remaining now old (W.contents writer.new) progress.new.cutter progress.new.tally) }
-    ensures left { OnErr result ((remaining now old : Option (List ℕ)) → Stands (printing_by judging.now) remaining (prepend_known chunk.now now) old (W.contents writer.old) progress.old.cutter progress.old.tally → LeavesPieces (printing_by judging.now) remaining old (W.contents writer.new)) }
+    ensures stands { OnOk result ((remaining now old before : Option (List ℕ)) → Stands (printing_by judging.now) judging.now.kept remaining (prepend_known chunk.now now) old (W.contents writer.old) before (E.contents errors.old) progress.old.cutter progress.old.tally → Stands (printing_by judging.now) judging.now.kept remaining now old (W.contents writer.new) before (E.contents errors.new) progress.new.cutter progress.new.tally) }
+    ensures left { OnErr result ((remaining now old before : Option (List ℕ)) → Stands (printing_by judging.now) judging.now.kept remaining (prepend_known chunk.now now) old (W.contents writer.old) before (E.contents errors.old) progress.old.cutter progress.old.tally → LeavesPieces (printing_by judging.now) judging.now.kept remaining old (W.contents writer.new) before (E.contents errors.new)) }
     ensures fault { IfErr result IsBatchFault }
 {
     let most = judging.options.workers.saturating_mul(PIECES_PER_WORKER);
     let mut from = 0;
     while from < chunk.len() {
         let (pieces, count) = progress.cutter.cut(&chunk[from..], most)?;
-        tell(rt, judging, meter, pieces, &mut progress.tally, writer)?;
+        tell(rt, judging, pieces, &mut progress.tally, writer, errors)?;
         from += count;
     }
     Ok(())
@@ -178,77 +189,112 @@ fn last_pieces(alloc: Global, cutter: Cutter) -> Result<Vec<Vec<u8>>, OutOfMemor
     Ok(pieces)
 }
 
-/// Judges pieces side by side, and writes what is printed of them in order. The meter hears how many there were.
-fn tell<H: Threads + Wait + Sync, M: Meter, W: Write>(
+/// Judges pieces side by side, and writes what is printed of them in order, and the notes on them.
+fn tell<H: Threads + Wait + Sync, W: Write, E: Write>(
     rt: &H,
     judging: &TextJudging<'_>,
-    meter: &M,
     pieces: Vec<Vec<u8>>,
     tally: &mut Tally,
     writer: &mut W,
+    errors: &mut E,
 ) -> Result<(), Fault>
     requires { 1 ≤ judging.now.options.workers }
-    ensures whole { OnOk result (WroteAll (printing_by judging.now) tally.old tally.new (rows pieces.items) (W.contents writer.old) (W.contents writer.new)) }
-    ensures some { OnErr result (WroteSome (printing_by judging.now) tally.old (rows pieces.items) (W.contents writer.old) (W.contents writer.new)) }
+    ensures whole { OnOk result (WroteAll (printing_by judging.now) judging.now.kept tally.old tally.new (rows pieces.items) (W.contents writer.old) (W.contents writer.new) (E.contents errors.old) (E.contents errors.new)) }
+    ensures some { OnErr result (WroteSome (printing_by judging.now) judging.now.kept tally.old (rows pieces.items) (W.contents writer.old) (W.contents writer.new) (E.contents errors.old) (E.contents errors.new)) }
     ensures fault { IfErr result IsBatchFault }
 {
     let jobs = judge_all(rt, judging.alloc, pieces, judging.options)?;
-    write_jobs(judging, &jobs, tally, writer)?;
-    meter.advance(jobs.len() as u64);
-    Ok(())
+    write_jobs(judging, &jobs, tally, writer, errors)
 }
 
-/// Writes what is printed of these jobs, in order, up to one that wasn't judged.
-fn write_jobs<W: Write>(
+/// Writes what is printed of these jobs, in order, and the notes on them, up to one that wasn't judged.
+fn write_jobs<W: Write, E: Write>(
     judging: &TextJudging<'_>,
     jobs: &[Job],
     tally: &mut Tally,
     writer: &mut W,
+    errors: &mut E,
 ) -> Result<(), Fault>
-    ensures whole { OnOk result ((pieces : List (List ℕ)) → AreJudged judging.now.options.printing.method pieces jobs.now → WroteAll (printing_by judging.now) tally.old tally.new pieces (W.contents writer.old) (W.contents writer.new)) }
-    ensures some { OnErr result ((pieces : List (List ℕ)) → AreJudged judging.now.options.printing.method pieces jobs.now → WroteSome (printing_by judging.now) tally.old pieces (W.contents writer.old) (W.contents writer.new)) }
+    ensures whole { OnOk result ((pieces : List (List ℕ)) → AreJudged judging.now.options.printing.method pieces jobs.now → WroteAll (printing_by judging.now) judging.now.kept tally.old tally.new pieces (W.contents writer.old) (W.contents writer.new) (E.contents errors.old) (E.contents errors.new)) }
+    ensures some { OnErr result ((pieces : List (List ℕ)) → AreJudged judging.now.options.printing.method pieces jobs.now → WroteSome (printing_by judging.now) judging.now.kept tally.old pieces (W.contents writer.old) (W.contents writer.new) (E.contents errors.old) (E.contents errors.new)) }
     ensures fault { IfErr result (λ fault. (pieces : List (List ℕ)) → AreJudged judging.now.options.printing.method pieces jobs.now → IsBatchFault fault) }
 {
     for job in jobs {
         match job.outcome {
-            Ok(judgment) => write_piece(judging, &job.piece, judgment, tally, writer)?,
+            Ok(judgment) => write_piece(judging, &job.piece, judgment, tally, writer, errors)?,
             Err(fault) => return Err(fault),
         }
     }
     Ok(())
 }
 
-/// Counts what is said of a piece, and writes what is printed of it.
-fn write_piece<W: Write>(
+/// Counts what is said of a piece, and writes what is printed of it, and then the note on it.
+fn write_piece<W: Write, E: Write>(
     judging: &TextJudging<'_>,
     piece: &[u8],
     judgment: Judgment,
     tally: &mut Tally,
     writer: &mut W,
+    errors: &mut E,
 ) -> Result<(), Fault>
     ensures counted { OnOk result ((judgments : List Judgment) → Counts tally.old judgments → Counts tally.new (judgments ++ judgment ∷ [])) }
     ensures traces { OnOk result (tally.new.traces ≡ tally.old.traces + 1) }
+    ensures violations { OnOk result (tally.new.violations ≡ kept_with tally.old.violations judgment) }
     ensures whole { OnOk result (Appends (W.contents writer.old) (W.contents writer.new) (piece_text (printing_by judging.now) (tally.old.traces + 1) piece.now judgment)) }
+    ensures noted { OnOk result (Appends (E.contents errors.old) (E.contents errors.new) (piece_note (printing_by judging.now) (judging.now.kept + kept_with tally.old.violations judgment) (tally.old.traces + 1) judgment)) }
     ensures prefix { AppendsPrefix (W.contents writer.old) (W.contents writer.new) (piece_text (printing_by judging.now) (tally.old.traces + 1) piece.now judgment) }
+    ensures some { AppendsPrefix (E.contents errors.old) (E.contents errors.new) (piece_note (printing_by judging.now) (judging.now.kept + kept_with tally.old.violations judgment) (tally.old.traces + 1) judgment) }
     ensures fault { IfErr result IsBatchFault }
 {
     tally.count(judgment)?;
     if judging.options.printing.violations {
-        return write_flushed(writer, violating_text(piece, judgment));
+        return write_violating(judging, piece, judgment, tally, writer, errors);
     }
     let line = written_line(judging, tally.traces, judgment)?;
     write_flushed(writer, line.as_bytes())
 }
 
-/// A piece as it came where it is a violation, and nothing of others.
-fn violating_text(piece: &[u8], judgment: Judgment) -> &[u8]
-    ensures { result.now ≡ violating_text piece.now judgment }
+/// Writes a piece as it came where it is a violation, and then the note on it; of others nothing.
+fn write_violating<W: Write, E: Write>(
+    judging: &TextJudging<'_>,
+    piece: &[u8],
+    judgment: Judgment,
+    tally: &Tally,
+    writer: &mut W,
+    errors: &mut E,
+) -> Result<(), Fault>
+    ensures whole { OnOk result (Appends (W.contents writer.old) (W.contents writer.new) (violating_text piece.now judgment)) }
+    ensures noted { OnOk result (Appends (E.contents errors.old) (E.contents errors.new) (kept_note (last_format judging.now.options.printing) judging.now.label.now (judging.now.kept + tally.now.violations) tally.now.traces judgment)) }
+    ensures prefix { AppendsPrefix (W.contents writer.old) (W.contents writer.new) (violating_text piece.now judgment) }
+    ensures some { AppendsPrefix (E.contents errors.old) (E.contents errors.new) (kept_note (last_format judging.now.options.printing) judging.now.label.now (judging.now.kept + tally.now.violations) tally.now.traces judgment) }
+    ensures fault { IfErr result IsBatchFault }
 {
     match judgment {
-        Judgment::Violation => piece,
+        Judgment::Violation => write_kept(judging, piece, tally, writer, errors),
         Judgment::NoViolation
         | Judgment::Consistent
         | Judgment::Undecided(_)
-        | Judgment::Refused(_) => &[],
+        | Judgment::Refused(_) => Ok(()),
     }
+}
+
+/// Writes the text of a violation, and then the note on it: which text it is among those that are printed, and which trace. Read
+/// where 64 bits don't hold that number.
+fn write_kept<W: Write, E: Write>(
+    judging: &TextJudging<'_>,
+    piece: &[u8],
+    tally: &Tally,
+    writer: &mut W,
+    errors: &mut E,
+) -> Result<(), Fault>
+    ensures whole { OnOk result (Appends (W.contents writer.old) (W.contents writer.new) piece.now) }
+    ensures noted { OnOk result (Appends (E.contents errors.old) (E.contents errors.new) (kept_line (last_format judging.now.options.printing) judging.now.label.now (judging.now.kept + tally.now.violations) tally.now.traces)) }
+    ensures prefix { AppendsPrefix (W.contents writer.old) (W.contents writer.new) piece.now }
+    ensures some { AppendsPrefix (E.contents errors.old) (E.contents errors.new) (kept_line (last_format judging.now.options.printing) judging.now.label.now (judging.now.kept + tally.now.violations) tally.now.traces) }
+    ensures fault { IfErr result IsBatchFault }
+{
+    let kept = sum(judging.kept, tally.violations)?;
+    let line = kept_line(judging, kept, tally.traces)?;
+    write_flushed(writer, piece)?;
+    write_flushed(errors, line.as_bytes())
 }

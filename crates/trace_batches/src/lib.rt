@@ -19,6 +19,7 @@ mod judgments;
 pub mod laws;
 mod lines;
 mod names;
+mod notes;
 mod nth_pieces;
 mod piece_readers;
 mod streams;

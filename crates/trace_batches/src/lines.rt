@@ -42,7 +42,7 @@ const JUNIT_HEAD: &str = "\
 <testsuite name=\"tsobench batch\">
 ";
 
-/// The format of the last line.
+/// The format of the last line, and of each note.
 pub(crate) fn last_format(printing: BatchPrinting) -> BatchFormat
     ensures { result ≡ last_format printing }
 {

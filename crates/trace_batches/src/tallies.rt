@@ -1,7 +1,7 @@
 //! How many pieces were judged, and what is said of them.
 ghost use Rattle.std.specs.Prelude.{◌≡◌, ◌+◌, ◌∷◌, ◌++◌, [], List, IfOk, IfErr, OnOk};
 ghost use Rattle.trace_batches.specs.BatchLines.{are_too_few};
-ghost use Rattle.trace_batches.specs.Batches.{Counts, batch_verdict, count_judged};
+ghost use Rattle.trace_batches.specs.Batches.{Counts, batch_verdict, count_judged, kept_with};
 ghost use Rattle.trace_batches.specs.declared.judgments.Judgment.{Judgment};
 ghost use Rattle.trace_judging.specs.declared.faults.Fault.{Fault};
 
@@ -19,6 +19,8 @@ pub enum BatchVerdict {
     Refused,
     /// One of them is a violation.
     Violation,
+    /// One of the texts couldn't be read.
+    Unread,
 }
 
 /// How many traces were judged, and of how many of them each thing is said.
@@ -49,6 +51,7 @@ impl Tally {
     pub(crate) fn count(&mut self, judgment: Judgment) -> Result<(), Fault>
         ensures counted { OnOk result ((judgments : List Judgment) → Counts self.old judgments → Counts self.new (judgments ++ judgment ∷ [])) }
         ensures traces { OnOk result (self.new.traces ≡ self.old.traces + 1) }
+        ensures violations { OnOk result (self.new.violations ≡ kept_with self.old.violations judgment) }
         ensures fault { IfErr result (λ fault. fault ≡ Fault.Read) }
     {
         self.traces = sum(self.traces, 1)?;
@@ -111,7 +114,7 @@ pub(crate) fn are_too_few(required: Option<u64>, count: u64) -> bool
 }
 
 /// The sum of numbers, or Read where 64 bits don't hold it.
-fn sum(count: u64, more: u64) -> Result<u64, Fault>
+pub(crate) fn sum(count: u64, more: u64) -> Result<u64, Fault>
     ensures sum { IfOk result (λ all. all ≡ count + more) }
     ensures fault { IfErr result (λ fault. fault ≡ Fault.Read) }
 {

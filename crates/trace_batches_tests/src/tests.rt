@@ -8,6 +8,7 @@ mod numbers;
 mod required;
 mod several;
 mod streams;
+mod unread;
 
 use progress_meters::NoMeter;
 use std::alloc::Global;
@@ -104,6 +105,9 @@ const LINES: &str =
 const SIX: &str =
     "tso trace 1\nproc\nld 01 9\nend\ntso trace 1\nproc\nld 1 9\nend\ntso trace 1\nproc\nst 1 1\nld 1 1\nend\ntso trace 1\nld 1 9\nend\ntso trace 1\nproc\nld 2 7\nmb\nend\ntso trace 1\nproc\nld 1 9\n";
 
+/// Stands for a text that can't be read.
+const UNREAD: &str = "no text";
+
 /// The texts of its violations, and of those of the three texts.
 const TWO_VIOLATIONS: &str = "tso trace 1\nproc\nld 1 9\nend\ntso trace 1\nproc\nld 2 7\nmb\nend\n";
 
@@ -118,12 +122,32 @@ fn judged<H: Threads + Wait + Sync, W: Write, E: Write>(
 ) -> Result<BatchVerdict, Fault>
     requires { 1 ≤ options.workers }
 {
-    if let [(None, text)] = texts {
-        return judge_batch(rt, alloc, options, &mut text.as_bytes(), writer, errors);
+    match texts {
+        [(None, text)] if *text != UNREAD => {
+            judge_batch(rt, alloc, options, &mut text.as_bytes(), writer, errors)
+        }
+        _ => judged_each(rt, alloc, options, texts, writer, errors),
     }
+}
+
+/// Judges texts, one after the other; one stands for a text that can't be read.
+fn judged_each<H: Threads + Wait + Sync, W: Write, E: Write>(
+    rt: &H,
+    alloc: Global,
+    options: BatchOptions,
+    texts: &[NamedText],
+    writer: &mut W,
+    errors: &mut E,
+) -> Result<BatchVerdict, Fault>
+    requires { 1 ≤ options.workers }
+{
     let mut batch = Batch::begin(alloc, options, writer)?;
     for (name, text) in texts {
-        batch.judge(rt, &NoMeter, *name, &mut text.as_bytes(), writer)?;
+        if *text == UNREAD {
+            batch.leave_out(*name, writer, errors)?;
+        } else {
+            batch.judge(rt, &NoMeter, *name, &mut text.as_bytes(), writer, errors)?;
+        }
     }
     batch.end(writer, errors)
 }
@@ -157,7 +181,9 @@ fn expect_batch<H: Threads + Wait + Sync + Abort>(
     let workers = workers.max(1);
     let options = BatchOptions { workers, printing };
     let said = judged(rt, alloc, options, texts, &mut writer, &mut errors);
-    let written = text.get(..room).unwrap_or(text);
+    let written = text
+        .get(..written_of(case, room, errors_room))
+        .unwrap_or(text);
     let is_whole = room >= text.len() && errors_room >= notes.len();
     let expected = if is_whole {
         Ok(verdict)
@@ -165,13 +191,38 @@ fn expect_batch<H: Threads + Wait + Sync + Abort>(
         Err(Fault::Write)
     };
     expect(rt, text, said, expected, &writer.taken, written);
-    // nothing is written to the errors where the output failed
-    let told = match notes.get(..errors_room) {
-        _ if room < text.len() => "",
-        Some(first) => first,
-        None => notes,
-    };
+    let told = notes
+        .get(..noted_of(case, room, errors_room))
+        .unwrap_or(notes);
     assert_eq!(rt; errors.taken.as_slice(), told.as_bytes(), "{text}");
+}
+
+/// The bytes of the first violation of six texts, and of the note on it.
+const FIRST_VIOLATION: usize = 28;
+
+const FIRST_NOTE: usize = 15;
+
+/// How many bytes of the text are written where the output and the errors have so much room: the next violation comes after the
+/// note on the first one.
+fn written_of(case: Case, room: usize, errors_room: usize) -> usize {
+    let (_, printing, _, text, _) = case;
+    if printing.violations && errors_room < FIRST_NOTE {
+        room.min(FIRST_VIOLATION)
+    } else {
+        room.min(text.len())
+    }
+}
+
+/// How many bytes of the notes: the last ones come after all of the text.
+fn noted_of(case: Case, room: usize, errors_room: usize) -> usize {
+    let (_, printing, _, text, notes) = case;
+    if room >= text.len() {
+        errors_room.min(notes.len())
+    } else if printing.violations && room >= FIRST_VIOLATION {
+        errors_room.min(FIRST_NOTE)
+    } else {
+        0
+    }
 }
 
 /// Compares what batches of these cases come to with each of several numbers of workers.
@@ -190,6 +241,7 @@ fn batches(rt: HostRuntime) {
     expect_cases(&rt, rt.alloc(), &several::CASES);
     expect_cases(&rt, rt.alloc(), &decided::CASES);
     expect_cases(&rt, rt.alloc(), &names::CASES);
+    expect_cases(&rt, rt.alloc(), &unread::CASES);
 }
 
 /// Batches of which so many traces have to be judged.
@@ -199,6 +251,9 @@ fn required_batches(rt: HostRuntime) {
         expect_cases(&rt, rt.alloc(), &[required::required(case)]);
     }
     for case in required::FEW {
+        expect_cases(&rt, rt.alloc(), &[required::required(case)]);
+    }
+    for case in unread::FEW {
         expect_cases(&rt, rt.alloc(), &[required::required(case)]);
     }
 }

@@ -60,7 +60,7 @@ pub fn judge_many<H: Threads + Wait + Sync, R: Read, W: Write, E: Write>(
         printing,
     };
     let mut batch = Batch::begin(alloc, options, writer)?;
-    batch.judge(rt, &NoMeter, None, reader, writer)?;
+    batch.judge(rt, &NoMeter, None, reader, writer, errors)?;
     let verdict = batch.end(writer, errors)?;
     Ok(verdict)
 }

@@ -12,7 +12,7 @@ use Rattle.trace_batches.specs.declared.batches.TextJudging.{TextJudging}
 use Rattle.trace_batches.specs.declared.jobs.Job.{Job}
 use Rattle.trace_batches.specs.declared.judgments.Judgment.{Judgment}
 use Rattle.trace_batches.specs.declared.tallies.Tally.{Tally}
-use Rattle.trace_batches.specs.Batches.{AreResults, Counts, IsBatchFault, TextPrinting, pieces_text}
+use Rattle.trace_batches.specs.Batches.{AreResults, Counts, IsBatchFault, TextPrinting, count_violations, pieces_notes, pieces_text}
 use Rattle.trace_batches.specs.Judgments.{AreJudgments, IsJudgment}
 
 -- ---- jobs
@@ -33,25 +33,29 @@ pub record AreJudged (method : BatchMethod) (pieces : List (List ℕ)) (jobs : L
 
 -- ---- what was counted and written
 
--- What is printed of these pieces was written, and their judgments counted.
-pub record WroteAll (of : TextPrinting) (before after : Tally) (pieces : List (List ℕ)) (old new : Option (List ℕ)) : Type 0 where
+-- What is printed of these pieces was written, and the notes on them, where so many texts of violations were printed before this text; and their judgments
+-- were counted.
+pub record WroteAll (of : TextPrinting) (kept : ℕ) (before after : Tally) (pieces : List (List ℕ)) (old new errors_before errors : Option (List ℕ)) : Type 0 where
   pub judgments : List Judgment
   pub are_judgments : AreJudgments of.printing.method pieces judgments
   pub counts : (earlier : List Judgment) → Counts before earlier → Counts after (earlier ++ judgments)
   pub traces : after.traces ≡ before.traces + length judgments
+  pub violations : after.violations ≡ before.violations + count_violations judgments
   pub written : Appends old new (pieces_text of (suc before.traces) pieces judgments)
+  pub noted : Appends errors_before errors (pieces_notes of (kept + before.violations) (suc before.traces) judgments)
 
--- A prefix of what is printed of the first of these pieces was written.
-pub record WroteSome (of : TextPrinting) (before : Tally) (pieces : List (List ℕ)) (old new : Option (List ℕ)) : Type 0 where
+-- A prefix of what is printed of the first of these pieces was written, and one of the notes on them.
+pub record WroteSome (of : TextPrinting) (kept : ℕ) (before : Tally) (pieces : List (List ℕ)) (old new errors_before errors : Option (List ℕ)) : Type 0 where
   pub count : ℕ
   pub judgments : List Judgment
   pub are_judgments : AreJudgments of.printing.method (take count pieces) judgments
   pub written : AppendsPrefix old new (pieces_text of (suc before.traces) (take count pieces) judgments)
+  pub noted : AppendsPrefix errors_before errors (pieces_notes of (kept + before.violations) (suc before.traces) judgments)
 
 -- ---- the whole
 
--- All that was read is cut, and what is printed of all pieces that ended in it is written.
-pub record Stands (of : TextPrinting) (remaining now old new : Option (List ℕ)) (cutter : CutterValue) (tally : Tally) : Type 0 where
+-- All that was read is cut, and what is printed of all pieces that ended in it is written, and the notes on them.
+pub record Stands (of : TextPrinting) (kept : ℕ) (remaining now old new errors_before errors : Option (List ℕ)) (cutter : CutterValue) (tally : Tally) : Type 0 where
   pub bytes : List ℕ
   pub taken : Consumes remaining now bytes
   pub ended : List (List ℕ)
@@ -63,9 +67,10 @@ pub record Stands (of : TextPrinting) (remaining now old new : Option (List ℕ)
   pub are_judgments : AreJudgments of.printing.method ended judgments
   pub counts : Counts tally judgments
   pub written : Appends old new (pieces_text of 1 ended judgments)
+  pub noted : Appends errors_before errors (pieces_notes of kept 1 judgments)
 
--- All of the stream was read, and what is printed of its pieces is written.
-pub record Told (of : TextPrinting) (remaining old new : Option (List ℕ)) (tally : Tally) : Type 0 where
+-- All of the stream was read, and what is printed of its pieces is written, and the notes on them.
+pub record Told (of : TextPrinting) (kept : ℕ) (remaining old new errors_before errors : Option (List ℕ)) (tally : Tally) : Type 0 where
   pub stream : List ℕ
   pub all : IfSome remaining (λ bytes. stream ≡ bytes)
   pub pieces : List (List ℕ)
@@ -73,11 +78,13 @@ pub record Told (of : TextPrinting) (remaining old new : Option (List ℕ)) (tal
   pub are_results : AreResults of.printing.method stream pieces judgments
   pub counts : Counts tally judgments
   pub written : Appends old new (pieces_text of 1 pieces judgments)
+  pub noted : Appends errors_before errors (pieces_notes of kept 1 judgments)
 
--- A prefix of what is printed of the pieces of the stream was written.
-abbrev pub LeavesPieces : TextPrinting → Option (List ℕ) → Option (List ℕ) → Option (List ℕ) → Type 0
-LeavesPieces of remaining old new =
+-- A prefix of what is printed of the pieces of the stream was written, and one of the notes on them.
+abbrev pub LeavesPieces : TextPrinting → ℕ → Option (List ℕ) → Option (List ℕ) → Option (List ℕ) → Option (List ℕ) → Option (List ℕ) → Type 0
+LeavesPieces of kept remaining old new errors_before errors =
     (pieces : List (List ℕ)) × (judgments : List Judgment) × ReadsAs remaining (λ stream. AreResults of.printing.method stream pieces judgments) × AppendsPrefix old new (pieces_text of 1 pieces judgments)
+    × AppendsPrefix errors_before errors (pieces_notes of kept 1 judgments)
 
 -- how the pieces of a text are printed
 abbrev pub printing_by : TextJudging → TextPrinting

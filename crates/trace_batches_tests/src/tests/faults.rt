@@ -2,7 +2,7 @@
 
 use super::{
     Case, DOCUMENT, JUNIT, LINES, OTHER, QUIET, SIX, STREAM, TEXT, THREE, TWO_VIOLATIONS,
-    VIOLATIONS, WORDS, expect, expect_batch, required,
+    VIOLATIONS, WORDS, expect, expect_batch, required, unread,
 };
 use progress_meters::{Meter, NoMeter};
 use std::alloc::Global;
@@ -18,25 +18,20 @@ use traces_for_tests::{FlushedWriter, SlowReader, TornReader};
 
 const VIOLATION: BatchVerdict = BatchVerdict::Violation;
 
-/// The numbers of the traces of six texts.
-const NUMBERS: &str = "traces 6 violations 2 refused 3\n";
+/// The notes on six texts.
+const NOTES: &str = "kept 1 trace 2\nkept 2 trace 5\ntraces 6 violations 2 refused 3\n";
 
 /// The violations of six texts.
-const VIOLATIONS_OF_SIX: Case = (
-    &[(None, SIX)],
-    VIOLATIONS,
-    VIOLATION,
-    TWO_VIOLATIONS,
-    NUMBERS,
-);
+const VIOLATIONS_OF_SIX: Case = (&[(None, SIX)], VIOLATIONS, VIOLATION, TWO_VIOLATIONS, NOTES);
 
 /// Batches whose writer stops at each byte.
-const STOPPED: [Case; 4] = [
+const STOPPED: [Case; 5] = [
     (&[(None, STREAM)], WORDS, VIOLATION, TEXT, ""),
     (&[(None, STREAM)], JUNIT, VIOLATION, DOCUMENT, ""),
     (&THREE, WORDS, VIOLATION, LINES, ""),
-    // nothing is written to the errors then
+    // a violation is noted after it was written
     VIOLATIONS_OF_SIX,
+    unread::AMONG_OTHERS,
 ];
 
 /// Compares what a batch of a case leads to whose writer stops at each byte.
@@ -63,10 +58,11 @@ fn expect_stopped_notes<H: Threads + Wait + Sync + Abort>(rt: &H, alloc: Global,
     }
 }
 
-/// Errors that stop at each byte have the first bytes of the notes, after all violations or lines were written.
+/// Errors that stop at each byte have the first bytes of the notes, each after what it is about was written.
 #[test]
 fn notes_to_errors_that_stop(rt: HostRuntime) {
     expect_stopped_notes(&rt, rt.alloc(), VIOLATIONS_OF_SIX);
+    expect_stopped_notes(&rt, rt.alloc(), unread::AMONG_OTHERS);
     for case in required::FEW {
         expect_stopped_notes(&rt, rt.alloc(), required::required(case));
     }
@@ -171,9 +167,10 @@ fn judged_both<H: Threads + Wait + Sync>(
 ) -> Result<BatchVerdict, Fault> {
     let mut errors = Vec::new(alloc);
     let mut batch = Batch::begin(alloc, OPTIONS, output)?;
-    batch.judge(rt, &NoMeter, Some("a"), &mut OTHER.as_bytes(), output)?;
+    let mut other = OTHER.as_bytes();
+    batch.judge(rt, &NoMeter, Some("a"), &mut other, output, &mut errors)?;
     let mut torn = TornReader::new(STREAM.as_bytes(), ErrorKind::Other);
-    batch.judge(rt, &NoMeter, Some("b"), &mut torn, output)?;
+    batch.judge(rt, &NoMeter, Some("b"), &mut torn, output, &mut errors)?;
     batch.end(output, &mut errors)
 }
 
@@ -200,13 +197,15 @@ impl Meter for TraceCount {
 fn meter_hears_of_each_trace(rt: HostRuntime) -> Result<(), Fail> {
     let meter = TraceCount(Cell::new(0));
     let mut output = Vec::new(rt.alloc());
+    let mut errors = Vec::new(rt.alloc());
     let options = BatchOptions {
         workers: 2,
         printing: QUIET,
     };
     let mut batch = Batch::begin(rt.alloc(), options, &mut output)?;
     for text in [OTHER, STREAM] {
-        batch.judge(&rt, &meter, None, &mut text.as_bytes(), &mut output)?;
+        let mut bytes = text.as_bytes();
+        batch.judge(&rt, &meter, None, &mut bytes, &mut output, &mut errors)?;
     }
     assert!(rt; meter.0.get() == 5);
     Ok(())

@@ -8,7 +8,7 @@ use super::{
 use trace_batches::BatchVerdict;
 
 /// How many traces have to be judged, and what the batch comes to then.
-type RequiredCase = (u64, Case);
+pub(super) type RequiredCase = (u64, Case);
 
 /// A trace without a violation, which is consistent, and what its batch writes.
 const TRACE: &str = "tso trace 1\nproc\nst 1 1\nld 1 1\nend\n";
@@ -44,7 +44,7 @@ pub(super) const FEW: [RequiredCase; 2] = [
             VIOLATIONS,
             BatchVerdict::Violation,
             TWO_VIOLATIONS,
-            "traces 6 violations 2 refused 3\nTOO FEW JUDGED 3 required 4\n",
+            "kept 1 trace 2\nkept 2 trace 5\ntraces 6 violations 2 refused 3\nTOO FEW JUDGED 3 required 4\n",
         ),
     ),
 ];
@@ -163,7 +163,7 @@ pub(super) const CASES: [RequiredCase; 16] = [
             VIOLATIONS,
             BatchVerdict::Violation,
             TWO_VIOLATIONS,
-            "traces 6 violations 2 refused 3\n",
+            "kept 1 trace 2\nkept 2 trace 5\ntraces 6 violations 2 refused 3\n",
         ),
     ),
     (
@@ -173,7 +173,7 @@ pub(super) const CASES: [RequiredCase; 16] = [
             VIOLATIONS_JSON,
             BatchVerdict::Violation,
             TWO_VIOLATIONS,
-            "{\"traces\":6,\"violations\":2,\"refused\":3}\nTOO FEW JUDGED 3 required 4\n",
+            "{\"kept\":1,\"trace\":2}\n{\"kept\":2,\"trace\":5}\n{\"traces\":6,\"violations\":2,\"refused\":3}\nTOO FEW JUDGED 3 required 4\n",
         ),
     ),
     (

@@ -47,20 +47,20 @@ pub(super) static CASES: [Case; 10] = [
         "a: trace 2 VIOLATION\na: trace 3 REFUSED BadNumber line 3\nb/c.trace: trace 1 REFUSED BeforeProc line 2\nb/c.trace: trace 2 VIOLATION\ntraces 5 violations 2 refused 2\n",
         "",
     ),
-    // texts of violations have no names
+    // texts of violations have no names, but the notes on them
     (
         &THREE,
         VIOLATIONS,
         BatchVerdict::Violation,
         TWO_VIOLATIONS,
-        "traces 5 violations 2 refused 2\n",
+        "a: kept 1 trace 2\nb/c.trace: kept 2 trace 2\ntraces 5 violations 2 refused 2\n",
     ),
     (
         &THREE,
         VIOLATIONS_JSON,
         BatchVerdict::Violation,
         TWO_VIOLATIONS,
-        "{\"traces\":5,\"violations\":2,\"refused\":2}\n",
+        "{\"file\":\"a\",\"kept\":1,\"trace\":2}\n{\"file\":\"b/c.trace\",\"kept\":2,\"trace\":2}\n{\"traces\":5,\"violations\":2,\"refused\":2}\n",
     ),
     // what ends with one text isn't joined with the next: a text without a last line `end` has a last piece
     (
@@ -78,14 +78,14 @@ pub(super) static CASES: [Case; 10] = [
         VIOLATIONS,
         BatchVerdict::Violation,
         TWO_VIOLATIONS,
-        "traces 6 violations 2 refused 3\n",
+        "kept 1 trace 2\nkept 2 trace 5\ntraces 6 violations 2 refused 3\n",
     ),
     (
         &[(None, SIX)],
         QUIET_VIOLATIONS,
         BatchVerdict::Violation,
         TWO_VIOLATIONS,
-        "traces 6 violations 2 refused 3\n",
+        "kept 1 trace 2\nkept 2 trace 5\ntraces 6 violations 2 refused 3\n",
     ),
     // each text that was printed is a violation by itself
     (

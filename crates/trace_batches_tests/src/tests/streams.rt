@@ -27,7 +27,7 @@ const QUIET_JUNIT: BatchPrinting = BatchPrinting {
     required: None,
 };
 
-const VIOLATIONS_JUNIT: BatchPrinting = BatchPrinting {
+pub(super) const VIOLATIONS_JUNIT: BatchPrinting = BatchPrinting {
     method: BatchMethod::Judge,
     format: BatchFormat::Junit,
     quiet: false,
@@ -150,7 +150,7 @@ pub(super) static CASES: [Case; 19] = [
         VIOLATIONS_JSON,
         BatchVerdict::Violation,
         "tso trace 1\nproc\nld 1 9\nend\n",
-        "{\"traces\":3,\"violations\":1,\"refused\":1}\n",
+        "{\"kept\":1,\"trace\":2}\n{\"traces\":3,\"violations\":1,\"refused\":1}\n",
     ),
     (
         &[(None, STREAM)],
@@ -172,7 +172,7 @@ pub(super) static CASES: [Case; 19] = [
         VIOLATIONS_JUNIT,
         BatchVerdict::Violation,
         "tso trace 1\nproc\nld 1 9\nend\n",
-        "traces 3 violations 1 refused 1\n",
+        "kept 1 trace 2\ntraces 3 violations 1 refused 1\n",
     ),
     (
         &[(None, "")],

@@ -7,5 +7,7 @@ use Rattle.trace_batches.proofs.batches.tell.Goals as goal
 pub returns-in_err-jobs-clause-some : goal.returns-in_err-jobs-clause-some
 returns-in_err-jobs-clause-some g c =
     let contents = g.W.Write.contents c.args.writer.now in
-    let some = wrote_before (printing_by c.args.judging.now) c.args.tally.now c.args.tally.now (rows c.args.pieces.items) 0 contents contents (wrote_none (printing_by c.args.judging.now) c.args.tally.now contents) in
+    let notes = g.E.Write.contents c.args.errors.now in
+    let some = wrote_before (printing_by c.args.judging.now) c.args.judging.now.kept c.args.tally.now c.args.tally.now (rows c.args.pieces.items) 0 contents contents notes notes
+    (wrote_none (printing_by c.args.judging.now) c.args.judging.now.kept c.args.tally.now contents notes) in
     search (rules, some)

@@ -20,8 +20,9 @@ cuts_rest cutter after chunk from count pieces cuts bytes at = subst (λ d. Cuts
 
 pub returns-in_err-pieces-clause-left : goal.returns-in_err-pieces-clause-left
 returns-in_err-pieces-clause-left g c =
-    let left = λ (remaining now old : Option (List ℕ)) (s : Stands (printing_by c.args.judging.now) remaining (prepend_known c.args.chunk.now now) old (g.W.Write.contents c.args.writer.now) c.args.progress.now.cutter c.args.progress.now.tally).
-    stands_left _ _ _ _ _ _ _ (c.loop-from.invariant.stands remaining now old s) in
+    let left = λ (remaining now old before : Option (List ℕ)) (s : Stands (printing_by c.args.judging.now) c.args.judging.now.kept remaining (prepend_known c.args.chunk.now now) old (g.W.Write.contents c.args.writer.now) before
+    (g.E.Write.contents c.args.errors.now) c.args.progress.now.cutter c.args.progress.now.tally).
+    stands_left _ _ _ _ _ _ _ _ _ _ (c.loop-from.invariant.stands remaining now old before s) in
     search (rules, left)
 
 pub returns-in_err-tell-clause-left : goal.returns-in_err-tell-clause-left
@@ -29,19 +30,20 @@ returns-in_err-tell-clause-left g c =
     let chunk = c.args.chunk.now in
     let from = c.loop-from.from in
     let count = c.in_ok-pieces.count in
-    let left = λ (remaining now old : Option (List ℕ)) (s : Stands (printing_by c.args.judging.now) remaining (prepend_known c.args.chunk.now now) old (g.W.Write.contents c.args.writer.now) c.args.progress.now.cutter c.args.progress.now.tally).
-    chunk_left _ _ _ (prepend_known (drop (from + count) chunk) now) _ _ _ _ _ _ (take count (drop from chunk)) c.in_ok-pieces.pieces.items (c.loop-from.invariant.stands remaining now old s)
+    let left = λ (remaining now old before : Option (List ℕ)) (s : Stands (printing_by c.args.judging.now) c.args.judging.now.kept remaining (prepend_known c.args.chunk.now now) old (g.W.Write.contents c.args.writer.now) before
+    (g.E.Write.contents c.args.errors.now) c.args.progress.now.cutter c.args.progress.now.tally).
+    chunk_left _ _ _ _ (prepend_known (drop (from + count) chunk) now) _ _ _ _ _ _ _ _ _ (take count (drop from chunk)) c.in_ok-pieces.pieces.items (c.loop-from.invariant.stands remaining now old before s)
     (next_taken chunk from count now) (cuts_rest c.loop-from.progress.cutter c.cut.new.self chunk from count c.in_ok-pieces.pieces.items c.in_ok-pieces.ensures.cut) c.in_err-tell.ensures.some in
     search (rules, left)
 
 pub loop-from-preserved : goal.loop-from-preserved
 loop-from-preserved g c = record {
   within = (let more = c.in_ok-pieces.ensures.within in let rest = length-drop c.loop-from.from c.args.chunk.now in let so_far = c.loop-from.invariant.within in omega (arith, more, rest, so_far));
-  stands = λ remaining now old s.
+  stands = λ remaining now old before s.
       let chunk = c.args.chunk.now in
       let from = c.loop-from.from in
       let count = c.in_ok-pieces.count in
-      chunk_told (printing_by c.args.judging.now) remaining (prepend_known (drop from chunk) now) (prepend_known (drop (from + count) chunk) now) old (g.W.Write.contents c.loop-from.writer)
-      (g.W.Write.contents c.tell.new.writer) c.loop-from.progress.cutter c.cut.new.self c.loop-from.progress.tally c.tell.new.tally (take count (drop from chunk)) c.in_ok-pieces.pieces.items
-      (c.loop-from.invariant.stands remaining now old s) (next_taken chunk from count now) (cuts_rest c.loop-from.progress.cutter c.cut.new.self chunk from count c.in_ok-pieces.pieces.items c.in_ok-pieces.ensures.cut) c.in_ok-tell.ensures.whole;
+      chunk_told (printing_by c.args.judging.now) c.args.judging.now.kept remaining (prepend_known (drop from chunk) now) (prepend_known (drop (from + count) chunk) now) old (g.W.Write.contents c.loop-from.writer)
+      (g.W.Write.contents c.tell.new.writer) before (g.E.Write.contents c.loop-from.errors) (g.E.Write.contents c.tell.new.errors) c.loop-from.progress.cutter c.cut.new.self c.loop-from.progress.tally c.tell.new.tally (take count (drop from chunk)) c.in_ok-pieces.pieces.items
+      (c.loop-from.invariant.stands remaining now old before s) (next_taken chunk from count now) (cuts_rest c.loop-from.progress.cutter c.cut.new.self chunk from count c.in_ok-pieces.pieces.items c.in_ok-pieces.ensures.cut) c.in_ok-tell.ensures.whole;
 }

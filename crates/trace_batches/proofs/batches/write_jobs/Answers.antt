@@ -4,12 +4,12 @@ use Rattle.std.specs.Prelude.{Result}
 use Rattle.std.proofs.lemmas.List.{take_more}
 use Rattle.trace_judging.specs.declared.faults.Fault.{Fault}
 use Rattle.trace_judging.specs.Streams.{AppendsPrefix}
-use Rattle.trace_batches.specs.Batches.{piece_text}
+use Rattle.trace_batches.specs.Batches.{kept_with, piece_note, piece_text}
 use Rattle.trace_batches.specs.declared.batches.BatchMethod.{BatchMethod}
 use Rattle.trace_batches.specs.declared.jobs.Job.{Job}
 use Rattle.trace_batches.specs.declared.judgments.Judgment.{Judgment}
 use Rattle.trace_batches.specs.Internal.Progress.{AreJudged, IsJobOf, IsOutcome, WroteAll, printing_by}
-use Rattle.trace_batches.proofs.JobFacts.{wrote_before, wrote_more, wrote_some}
+use Rattle.trace_batches.proofs.JobFacts.{wrote_before, wrote_more, wrote_none, wrote_some}
 use Rattle.trace_batches.proofs.batches.write_jobs.Goals as goal
 
 -- the job of piece i
@@ -31,19 +31,22 @@ of_job : (method : BatchMethod) (Is : List ℕ → Type 0) (pieces : List (List 
     Is bytes → Is (get_or pieces i [])
 of_job method Is pieces jobs i job bytes judged inside at same is = subst Is (same ∙ (job_at method pieces jobs i job judged inside at).0) is
 
+pub loop-job-init : goal.loop-job-init
+loop-job-init g c = λ pieces judged. wrote_none (printing_by c.args.judging.now) c.args.judging.now.kept c.args.tally.now (g.W.Write.contents c.args.writer.now) (g.E.Write.contents c.args.errors.now)
+
 pub returns-in_err-write_piece-in-Ok-clause-some : goal.returns-in_err-write_piece-in-Ok-clause-some
 returns-in_err-write_piece-in-Ok-clause-some g c =
     let inside = c.loop-job-test.true in
     let some = λ (pieces : List (List ℕ)) (judged : AreJudged c.args.judging.now.options.printing.method pieces c.args.jobs.now).
-    wrote_some (printing_by c.args.judging.now) c.args.tally.now c.loop-job.tally pieces c.loop-job.job-index c.in-Ok.judgment _ _ _ (within c.args.judging.now.options.printing.method pieces c.args.jobs.now c.loop-job.job-index judged inside)
+    wrote_some (printing_by c.args.judging.now) c.args.judging.now.kept c.args.tally.now c.loop-job.tally pieces c.loop-job.job-index c.in-Ok.judgment _ _ _ _ _ _ (within c.args.judging.now.options.printing.method pieces c.args.jobs.now c.loop-job.job-index judged inside)
     (c.loop-job.invariant pieces judged) (outcome_at c.args.judging.now.options.printing.method pieces c.args.jobs.now c.loop-job.job-index c.job-item.result (Ok c.in-Ok.judgment) judged inside c.job-item.is c.in-Ok.is)
     (of_job c.args.judging.now.options.printing.method (λ piece. AppendsPrefix (g.W.Write.contents c.loop-job.writer) (g.W.Write.contents c.write_piece.new.writer) (piece_text (printing_by c.args.judging.now) (c.loop-job.tally.traces + 1) piece c.in-Ok.judgment))
-    pieces c.args.jobs.now c.loop-job.job-index c.job-item.result c.deref.result.now judged inside c.job-item.is c.deref.ensures.value c.write_piece.ensures.prefix) in
+    pieces c.args.jobs.now c.loop-job.job-index c.job-item.result c.deref.result.now judged inside c.job-item.is c.deref.ensures.value c.write_piece.ensures.prefix) c.write_piece.ensures.some in
     search (rules, some)
 
 pub returns-in-Err-clause-some : goal.returns-in-Err-clause-some
 returns-in-Err-clause-some g c = λ pieces judged.
-    wrote_before (printing_by c.args.judging.now) c.args.tally.now c.loop-job.tally pieces c.loop-job.job-index _ _ (c.loop-job.invariant pieces judged)
+    wrote_before (printing_by c.args.judging.now) c.args.judging.now.kept c.args.tally.now c.loop-job.tally pieces c.loop-job.job-index _ _ _ _ (c.loop-job.invariant pieces judged)
 
 pub loop-job-preserved : goal.loop-job-preserved
 loop-job-preserved g c = λ pieces judged.
@@ -52,8 +55,9 @@ loop-job-preserved g c = λ pieces judged.
     let piece = get_or pieces c.loop-job.job-index [] in
     let written = of_job c.args.judging.now.options.printing.method (λ piece. Appends (g.W.Write.contents c.loop-job.writer) (g.W.Write.contents c.write_piece.new.writer) (piece_text (printing_by c.args.judging.now) (c.loop-job.tally.traces + 1) piece c.in-Ok.judgment))
     pieces c.args.jobs.now c.loop-job.job-index c.job-item.result c.deref.result.now judged inside c.job-item.is c.deref.ensures.value done.whole in
-    let more = wrote_more (printing_by c.args.judging.now) c.args.tally.now c.loop-job.tally c.write_piece.new.tally (take c.loop-job.job-index pieces) piece c.in-Ok.judgment _ _ _
+    let more = wrote_more (printing_by c.args.judging.now) c.args.judging.now.kept c.args.tally.now c.loop-job.tally c.write_piece.new.tally (take c.loop-job.job-index pieces) piece c.in-Ok.judgment _ _ _ _ _ _
     (c.loop-job.invariant pieces judged)
-    (outcome_at c.args.judging.now.options.printing.method pieces c.args.jobs.now c.loop-job.job-index c.job-item.result (Ok c.in-Ok.judgment) judged inside c.job-item.is c.in-Ok.is) done.counted done.traces written in
-    subst (λ ps. WroteAll (printing_by c.args.judging.now) c.args.tally.now c.write_piece.new.tally ps (g.W.Write.contents c.args.writer.now) (g.W.Write.contents c.write_piece.new.writer))
+    (outcome_at c.args.judging.now.options.printing.method pieces c.args.jobs.now c.loop-job.job-index c.job-item.result (Ok c.in-Ok.judgment) judged inside c.job-item.is c.in-Ok.is) done.counted done.traces done.violations written done.noted in
+    subst (λ ps. WroteAll (printing_by c.args.judging.now) c.args.judging.now.kept c.args.tally.now c.write_piece.new.tally ps (g.W.Write.contents c.args.writer.now) (g.W.Write.contents c.write_piece.new.writer)
+    (g.E.Write.contents c.args.errors.now) (g.E.Write.contents c.write_piece.new.errors))
     (sym (take_more pieces c.loop-job.job-index [] (within c.args.judging.now.options.printing.method pieces c.args.jobs.now c.loop-job.job-index judged inside))) more

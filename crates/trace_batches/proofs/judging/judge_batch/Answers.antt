@@ -11,17 +11,17 @@ returns-in_err-batch-clause-left g c =
 
 pub returns-in_err-judge-clause-left : goal.returns-in_err-judge-clause-left
 returns-in_err-judge-clause-left g c =
-    let start = begun _ _ _ _ c.in_ok-batch.ensures.begun c.in_ok-batch.ensures.whole in
-    whatever c.from_residual-in_err-judge.result (judged_left _ _ [] _ _ start _ [] _ (g.E.Write.contents c.args.errors.now) c.in_err-judge.ensures.left)
+    let start = begun _ _ _ _ (g.E.Write.contents c.args.errors.now) c.in_ok-batch.ensures.begun c.in_ok-batch.ensures.whole in
+    whatever c.from_residual-in_err-judge.result (judged_left _ _ [] _ _ _ _ start _ [] _ _ c.in_err-judge.ensures.left)
 
 pub returns-clause-whole : goal.returns-clause-whole
 returns-clause-whole g c =
-    let start = begun _ _ _ _ c.in_ok-batch.ensures.begun c.in_ok-batch.ensures.whole in
-    let judged = judged_more _ _ [] _ _ start _ _ _ c.in_ok-judge.ensures.judged in
-    IfOk-weaker c.end.result _ _ (λ verdict ends. ended _ _ _ _ _ judged _ _ _ verdict ends) c.end.ensures.ended
+    let start = begun _ _ _ _ (g.E.Write.contents c.args.errors.now) c.in_ok-batch.ensures.begun c.in_ok-batch.ensures.whole in
+    let judged = judged_more _ _ [] _ _ _ _ start _ _ _ _ c.in_ok-judge.ensures.judged in
+    IfOk-weaker c.end.result _ _ (λ verdict ends. ended _ _ _ _ _ _ _ judged _ _ verdict ends) c.end.ensures.ended
 
 pub returns-clause-left : goal.returns-clause-left
 returns-clause-left g c =
-    let start = begun _ _ _ _ c.in_ok-batch.ensures.begun c.in_ok-batch.ensures.whole in
-    let judged = judged_more _ _ [] _ _ start _ _ _ c.in_ok-judge.ensures.judged in
-    on_err_weaker c.end.result (λ left. end_left _ _ _ _ _ judged _ _ _ left) c.end.ensures.left
+    let start = begun _ _ _ _ (g.E.Write.contents c.args.errors.now) c.in_ok-batch.ensures.begun c.in_ok-batch.ensures.whole in
+    let judged = judged_more _ _ [] _ _ _ _ start _ _ _ _ c.in_ok-judge.ensures.judged in
+    on_err_weaker c.end.result (λ left. end_left _ _ _ _ _ _ _ judged _ _ left) c.end.ensures.left
