@@ -4,3 +4,4 @@ pub mod FoundFacts
 pub mod CountFacts
 pub mod NameFacts
 pub mod ReadFacts
+pub mod RefusalFacts

@@ -9,13 +9,13 @@ use Rattle.tso_ops.specs.Events.{IsUnwritten}
 use Rattle.tso_text.specs.declared.faults.Why.{Why}
 use Rattle.trace_judging.specs.declared.faults.Fault.{Fault}
 use Rattle.trace_reports.specs.Readings.{ReadsAs}
-use Rattle.trace_reports.specs.RefusalLines.{refusal_text}
 use Rattle.log_text.specs.LogTexts.{IsEndedAsNeeded, IsLogRefusal, SpellsLog}
 use Rattle.log_text.specs.LogValues.{NumberedLog, log_operations}
 use Rattle.log_reports.specs.declared.reports.LogOptions.{LogOptions}
 use Rattle.log_reports.specs.declared.reports.LogReport.{LogReport}
 use Rattle.log_reports.specs.declared.reports.LogVerdict.{LogVerdict}
 use Rattle.log_reports.specs.declared.reports.LogVerdict.TheVariants.{NoViolation, Refused, Violation}
+use Rattle.log_reports.specs.LogRefusals.{log_refusal_text}
 use Rattle.log_reports.specs.LogReports.{IsLogReport, IsLogReportOfReader, IsReportOf}
 use Rattle.log_reports.proofs.ViolationFacts.{report_violation, report_written}
 
@@ -58,9 +58,9 @@ module _ (options : LogOptions) (remaining : Option (List ℕ)) (text bytes : Li
   log_said log (Err fault) spelled ended is = tt
 
   -- the refusal of a text
-  pub refusal_said : (line : ℕ) (why : Why) (said : List ℕ) (verdict : LogVerdict) → IsLogRefusal options.needs_end text line why → said ≡ refusal_text line why → verdict ≡ Refused → IsLogReportOfReader options remaining said verdict
+  pub refusal_said : (line : ℕ) (why : Why) (said : List ℕ) (verdict : LogVerdict) → IsLogRefusal options.needs_end text line why → said ≡ log_refusal_text options.form text line why → verdict ≡ Refused → IsLogReportOfReader options remaining said verdict
   refusal_said line why said verdict refused says gives =
-      of_reader (λ bytes. IsLogReport options bytes said verdict) remaining bytes all (inr (record { line = line; why = why; refused = subst (λ (l : List ℕ). IsLogRefusal options.needs_end l line why) same refused; says = says; gives = gives }))
+      of_reader (λ bytes. IsLogReport options bytes said verdict) remaining bytes all (inr (record { line = line; why = why; refused = subst (λ (l : List ℕ). IsLogRefusal options.needs_end l line why) same refused; says = subst (λ (l : List ℕ). said ≡ log_refusal_text options.form l line why) same says; gives = gives }))
 
 -- a log on which the report is a violation has no order
 pub reader_violation : (options : LogOptions) (remaining : Option (List ℕ)) (text : List ℕ) (verdict : LogVerdict) → IsLogReportOfReader options remaining text verdict → verdict ≡ Violation →

@@ -3,7 +3,6 @@ use Rattle.std.specs.Prelude.{◌≡◌, ◌⊎◌, ℕ, Bool, ◌&&◌, not, Li
 use Rattle.line_text.specs.Lines.{is_empty}
 use Rattle.tso_text.specs.declared.faults.Why.{Why}
 use Rattle.trace_reports.specs.Readings.{ReadsAs}
-use Rattle.trace_reports.specs.RefusalLines.{refusal_text}
 use Rattle.log_text.specs.LogTexts.{IsEndedAsNeeded, IsLogRefusal, SpellsLog}
 use Rattle.log_text.specs.LogValues.{NumberedLog}
 use Rattle.log_selections.specs.Sources.{IsAmbiguousCount}
@@ -14,6 +13,7 @@ use Rattle.log_reports.specs.declared.reports.LogVerdict.{LogVerdict}
 use Rattle.log_reports.specs.declared.reports.LogVerdict.TheVariants.{NoViolation, NotAllJudged, Violation, Refused}
 use Rattle.log_reports.specs.Findings.{AreFindings, AreWithin, AreWrittenIn, has_unjudged}
 use Rattle.log_reports.specs.LogCounts.{counts_of, is_nothing_judged, is_too_unknown}
+use Rattle.log_reports.specs.LogRefusals.{log_refusal_text}
 use Rattle.log_reports.specs.LogTexts.{text_in}
 
 -- The whole log was searched, what was found could be judged, some load was, and no larger share of the loads is unknown than allowed.
@@ -37,12 +37,12 @@ pub record IsReportOf (log : NumberedLog) (options : LogOptions) (text : List �
   pub says : text ≡ text_in options (counts_of log unknown) log findings
   pub gives : verdict ≡ verdict_of options (counts_of log unknown) findings
 
--- The text is the line of the refusal of these bytes, which are no log, or lack the line `end` that is needed.
+-- The text is the refusal of these bytes in the form that is asked for: they are no log, or lack the line `end` that is needed.
 pub record IsRefusalOf (options : LogOptions) (bytes text : List ℕ) (verdict : LogVerdict) : Type 0 where
   pub line : ℕ
   pub why : Why
   pub refused : IsLogRefusal options.needs_end bytes line why
-  pub says : text ≡ refusal_text line why
+  pub says : text ≡ log_refusal_text options.form bytes line why
   pub gives : verdict ≡ Refused
 
 -- The text is a report on the log that these bytes spell, or refuses them.

@@ -55,7 +55,7 @@ pub struct LogFindings {
 
 /// Finds violations of a log: first loads of what nothing wrote, in the order of their processors, and then what the search
 /// finds, with the effort that the options allow it; of each kind as many at most as they say. The meter hears of each operation
-/// that the search looks at.
+/// once, when the search passed it.
 ///
 /// Faults: OutOfMemory where an allocation was refused, and NoThread where the system refused a thread.
 pub fn find_violations<H: Threads + Wait, M: Meter>(

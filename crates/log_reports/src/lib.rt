@@ -4,6 +4,7 @@
 #![tactic(auto)]
 
 pub use findings::{LogFindings, LogViolation, find_violations};
+pub use meters::LogMeter;
 pub use rendering::LogForm;
 pub use reports::{LogOptions, LogVerdict, report_log};
 
@@ -12,7 +13,10 @@ mod findings;
 mod judging;
 pub mod laws;
 mod lines;
+mod meters;
 mod naming;
 mod notes;
+mod refusal_sentences;
+mod refusals;
 mod rendering;
 mod reports;

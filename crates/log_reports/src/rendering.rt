@@ -23,7 +23,7 @@ use tso_text::print_trace;
 pub enum LogForm {
     /// The report: the lines of each violation.
     Lines,
-    /// The report, and after each violation's lines its explanation.
+    /// The report, and after each violation's lines its explanation; or the line of a refusal, and what explains it.
     Explained,
     /// The texts of the violations' traces, one after another, and no report. That of a load of what nothing wrote has such a load
     /// alone.

@@ -8,17 +8,18 @@ ghost use Rattle.tso_model.specs.Axioms.{IsConsistent};
 ghost use Rattle.tso_ops.specs.Events.{IsUnwritten};
 ghost use Rattle.log_text.specs.LogTexts.{SpellsLog};
 ghost use Rattle.log_text.specs.LogValues.{NumberedLog, log_operations, log_value};
-ghost use Rattle.trace_reports.specs.RefusalLines.{refusal_text};
 ghost use Rattle.tso_text.specs.declared.faults.Why.{Why};
+ghost use Rattle.log_reports.specs.LogRefusals.{log_refusal_text};
 ghost use Rattle.log_reports.specs.LogReports.{IsLogReportOfReader, IsReportOf, verdict_of};
 
 use crate::counts::LogCounts;
 use crate::findings::{LogFindings, find_violations};
+use crate::meters::LogMeter;
 use crate::notes::render_notes;
+use crate::refusals::push_said_of_refusal;
 use crate::rendering::{LogForm, render};
 use log_selections::KnownLog;
 use log_text::{Log, read_log};
-use progress_meters::Meter;
 use std::alloc::Global;
 use std::io::{Read, Write};
 use std::sync::Wait;
@@ -64,13 +65,16 @@ struct LogReport {
     verdict: LogVerdict,
 }
 
-/// Reports on the log that a reader has: writes its violations, or the line of its refusal where the text is no log's.
+/// Reports on the log that a reader has: writes its violations, or where the text is no log's the line of its refusal, and with
+/// explanations the line of the text that decided, and the rule that it breaks.
 ///
-/// Notes on what was left out go to `errors`; what that doesn't take is lost. The meter hears of each operation that the search
-/// looks at. Faults: OutOfMemory where an allocation was
-/// refused; Read where the reader failed, or didn't show its end within 2,097,152 calls of `read`; NoThread where the system
-/// refused a thread; Write where the writer failed, took no byte or was interrupted more than 1,048,576 times.
-pub fn report_log<H: Threads + Wait + AllocGlobal, M: Meter, R: Read, W: Write, E: Write>(
+/// Notes on what was left out go to `errors`; what that doesn't take is lost. The meter hears how many operations the log has, and
+/// of each once, when the search passed it: of all, unless the search ended early or found more violations than are listed.
+///
+/// Faults: OutOfMemory where an allocation was refused; Read where the reader failed, or didn't show its end within 2,097,152
+/// calls of `read`; NoThread where the system refused a thread; Write where the writer failed, took no byte or was interrupted
+/// more than 1,048,576 times.
+pub fn report_log<H: Threads + Wait + AllocGlobal, M: LogMeter, R: Read, W: Write, E: Write>(
     rt: &H,
     options: LogOptions,
     meter: &M,
@@ -94,7 +98,7 @@ pub fn report_log<H: Threads + Wait + AllocGlobal, M: Meter, R: Read, W: Write, 
 }
 
 /// The report on the log that a reader has.
-fn read_report<H: Threads + Wait + AllocGlobal, M: Meter, R: Read>(
+fn read_report<H: Threads + Wait + AllocGlobal, M: LogMeter, R: Read>(
     rt: &H,
     options: LogOptions,
     meter: &M,
@@ -112,12 +116,12 @@ fn read_report<H: Threads + Wait + AllocGlobal, M: Meter, R: Read>(
             drop(text);
             report_on(rt, options, meter, log)
         }
-        Err(fault) => Ok(refuse(alloc, fault)?),
+        Err(fault) => Ok(refuse(alloc, options.form, &text, fault)?),
     }
 }
 
 /// The report on a log.
-fn report_on<H: Threads + Wait + AllocGlobal, M: Meter>(
+fn report_on<H: Threads + Wait + AllocGlobal, M: LogMeter>(
     rt: &H,
     options: LogOptions,
     meter: &M,
@@ -128,8 +132,9 @@ fn report_on<H: Threads + Wait + AllocGlobal, M: Meter>(
 {
     let alloc = rt.alloc();
     let known = KnownLog::new(alloc, log)?;
-    let findings = find_violations(rt, alloc, &known, options, meter)?;
     let counts = LogCounts::new(known.log(), known.ambiguous_loads())?;
+    meter.expect_operations(counts.operations as u64);
+    let findings = find_violations(rt, alloc, &known, options, meter)?;
     Ok(LogReport {
         text: render(alloc, options, counts, &known, &findings)?,
         notes: render_notes(alloc, options, counts, &findings)?,
@@ -160,13 +165,19 @@ fn verdict_of(
     }
 }
 
-/// The report of a refusal. OutOfMemory where an allocation was refused, also where the fault says so.
-fn refuse(alloc: Global, fault: TextFault) -> Result<LogReport, OutOfMemory>
-    ensures { IfOk result (λ report. (fault.why ≢ Why.OutOfMemory) × (string_bytes report.text ≡ refusal_text fault.line fault.why) × (report.verdict ≡ LogVerdict.Refused)) }
+/// The report of a refusal of this text, in this form. OutOfMemory where an allocation was refused, also where the fault says so.
+fn refuse(
+    alloc: Global,
+    form: LogForm,
+    input: &[u8],
+    fault: TextFault,
+) -> Result<LogReport, OutOfMemory>
+    ensures { IfOk result (λ report. (fault.why ≢ Why.OutOfMemory) × (string_bytes report.text ≡ log_refusal_text form input.now fault.line fault.why) × (report.verdict ≡ LogVerdict.Refused)) }
 {
-    let refusal = render_refusal(alloc, fault)?;
+    let mut text = render_refusal(alloc, fault)?.text;
+    push_said_of_refusal(&mut text, form, input, fault)?;
     Ok(LogReport {
-        text: refusal.text,
+        text,
         notes: String::new(alloc),
         verdict: LogVerdict::Refused,
     })

@@ -1,6 +1,7 @@
 //! Logs that are reported on, and readers, writers and allocations that fail.
 
 mod notes;
+mod progress;
 mod reports;
 
 use log_reports::{LogForm, LogOptions, LogVerdict, report_log};

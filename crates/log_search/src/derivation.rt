@@ -1,4 +1,5 @@
 //! The derived order as far as it is known: which nodes are done, and what reaches them.
+ghost use Rattle.std.specs.Prelude.{◌≡◌};
 
 use crate::edges::Why;
 use crate::graphs::Graph;
@@ -58,6 +59,8 @@ pub(crate) struct Derivation {
     pub(crate) work: Work,
     /// The nodes that are done, in the order in which they were.
     done: Vec<u32>,
+    /// How many operations have their first node among these.
+    operations: usize,
     /// Nodes that were taken back, that which was done first on top.
     pub(crate) redo: Vec<u32>,
 }
@@ -126,6 +129,7 @@ impl Derivation {
             waiting: 0,
             work,
             done: memory.room(nodes),
+            operations: 0,
             redo: Vec::new(memory.alloc()),
             graph,
         }
@@ -134,6 +138,13 @@ impl Derivation {
     /// Whether nothing more is looked for now: a violation was found, or work or memory came to its end.
     pub(crate) fn is_stopped(&self, memory: &Memory) -> bool {
         self.closing.is_some() || self.work.is_spent() || memory.is_refused()
+    }
+
+    /// How many operations are done: those whose first node is.
+    pub(crate) fn operations(&self) -> usize
+        ensures { result ≡ self.now.operations }
+    {
+        self.operations
     }
 
     /// Whether a node that is done comes before another that is.
@@ -151,6 +162,9 @@ impl Derivation {
         put(&mut self.graph.ranks, number, self.clock);
         put(&mut self.changed, number, self.clock);
         memory.push(&mut self.done, number);
+        if self.graph.begins_operation(number) {
+            self.operations = self.operations.saturating_add(1);
+        }
         if item(&self.since, number) == 0 {
             put(&mut self.since, number, self.clock);
         }
@@ -315,6 +329,9 @@ impl Derivation {
         if changed >= time {
             self.work.spend(self.rows.width());
             memory.push(&mut self.redo, node);
+            if self.graph.begins_operation(node) {
+                self.operations = self.operations.saturating_sub(1);
+            }
             put(&mut self.graph.ranks, node, 0);
             put(&mut self.changed, node, 0);
             self.rows.clear(node);

@@ -44,6 +44,28 @@ impl Graph {
         }
     }
 
+    /// Whether a node is the first of an operation: no swap's store after its load, and no STBAR, which is a node in each part of
+    /// the addresses.
+    #[inline]
+    pub(crate) fn begins_operation(&self, number: u32) -> bool {
+        match self.node(number) {
+            Some(node) => node.kind != Kind::Stbar && !self.is_second(number, node),
+            None => false,
+        }
+    }
+
+    /// Whether the node before a node is one of the same operation.
+    #[inline]
+    fn is_second(&self, number: u32, node: Node) -> bool {
+        let Some(before) = number.checked_sub(1) else {
+            return false;
+        };
+        match self.node(before) {
+            Some(before) => before.is_with(node),
+            None => false,
+        }
+    }
+
     /// Whether a node is the load of a swap, which isn't left out.
     pub(crate) fn is_swap_load(&self, node: u32) -> bool {
         match self.node(node) {

@@ -23,6 +23,7 @@ mod lookups;
 mod nodes;
 mod numbers;
 mod paths;
+mod progress;
 mod queues;
 mod reduction;
 mod roots;

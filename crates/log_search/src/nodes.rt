@@ -1,5 +1,7 @@
 //! The nodes of the derived order: the events of a log that can matter, and under PSO its STBARs.
 
+ghost use Rattle.std.specs.Prelude.{◌≡◌, Decides};
+
 use crate::numbers::NONE;
 
 /// In place of the source of a load: the first value.
@@ -65,6 +67,14 @@ impl Node {
             load_place: 0,
             stbar_place: 0,
         }
+    }
+
+    /// Whether the other is a node of the same operation.
+    #[inline]
+    pub(crate) fn is_with(self, other: Node) -> bool
+        ensures { Decides result ((self.processor ≡ other.processor) × (self.operation ≡ other.operation)) }
+    {
+        self.processor == other.processor && self.operation == other.operation
     }
 
     /// Whether it is a load.

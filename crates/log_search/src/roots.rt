@@ -6,6 +6,7 @@ use crate::graphs::Graph;
 use crate::links::Links;
 use crate::lookups::line_of;
 use crate::numbers::{NONE, item, narrow, put};
+use crate::progress::Progress;
 use log_selections::KnownLog;
 use progress_meters::Meter;
 use search_memory::Memory;
@@ -52,15 +53,18 @@ impl Roots {
         self.stack.clear();
     }
 
-    /// Does the nodes that aren't done, up to a violation or the end of the budget. The meter hears of each that is looked at.
+    /// Does the nodes that aren't done, up to a violation or the end of the budget. The meter hears of the operations that are
+    /// passed.
     pub(crate) fn advance<M: Meter>(
         &mut self,
         memory: &Memory,
         known: &KnownLog,
         derivation: &mut Derivation,
+        progress: &mut Progress,
         meter: &M,
     ) {
         for _ in 0..usize::MAX {
+            progress.tell(derivation.operations(), meter);
             if derivation.is_stopped(memory) {
                 break;
             }
@@ -69,7 +73,6 @@ impl Roots {
             };
             memory.push(&mut self.stack, (root, false));
             self.visit(memory, derivation);
-            meter.advance(1);
         }
         derivation.apply(memory);
     }

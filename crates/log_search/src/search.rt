@@ -4,6 +4,7 @@ use crate::building::{Scope, build};
 use crate::derivation::{Derivation, Work};
 use crate::explanations::explain;
 use crate::graphs::Graph;
+use crate::progress::Progress;
 use crate::roots::Roots;
 use crate::selections::select;
 use crate::surveys::{Addresses, Survey};
@@ -34,6 +35,7 @@ pub struct Search<'a> {
     parts: usize,
     derivation: Derivation,
     roots: Roots,
+    progress: Progress,
 }
 
 impl<'a> Search<'a> {
@@ -50,12 +52,14 @@ impl<'a> Search<'a> {
         let graph = graph_at(&memory, known, &survey, addresses);
         let work = Work::new(effort, known.sources().len(), graph.chains.len());
         let roots = Roots::new(&memory, known, &graph);
+        let progress = Progress::new(survey.passed_over(known));
         let search = Search {
             known,
             survey,
             addresses,
             parts: 1,
             roots,
+            progress,
             derivation: Derivation::new(&memory, graph, work),
         };
         memory.whole(search)
@@ -73,7 +77,7 @@ impl<'a> Search<'a> {
     }
 
     /// The next proposal, or the end. The loads of a proposal are left out of what is looked at after it. OutOfMemory where
-    /// an allocation was refused. The meter hears of each operation that is looked at.
+    /// an allocation was refused. The meter hears of each operation of the log once, when it is passed: of all before `End`.
     pub fn next<M: Meter>(&mut self, alloc: Global, meter: &M) -> Result<Found, OutOfMemory> {
         let memory = Memory::new(alloc);
         let found = self.find(&memory, meter);
@@ -83,8 +87,13 @@ impl<'a> Search<'a> {
     /// The next proposal, or the end.
     fn find<M: Meter>(&mut self, memory: &Memory, meter: &M) -> Found {
         for _ in 0..usize::MAX {
-            self.roots
-                .advance(memory, self.known, &mut self.derivation, meter);
+            self.roots.advance(
+                memory,
+                self.known,
+                &mut self.derivation,
+                &mut self.progress,
+                meter,
+            );
             if self.derivation.closing.is_some() {
                 return self.propose(memory);
             }
@@ -103,6 +112,7 @@ impl<'a> Search<'a> {
     fn begin_part(&mut self, memory: &Memory) {
         self.addresses = self.survey.addresses_from(self.addresses.to);
         self.parts = self.parts.saturating_add(1);
+        self.progress.pass(self.derivation.operations());
         let graph = graph_at(memory, self.known, &self.survey, self.addresses);
         self.roots = Roots::new(memory, self.known, &graph);
         let mut work = self.derivation.work;

@@ -148,6 +148,41 @@ impl Survey {
         item(&self.addresses, narrow(number))
     }
 
+    /// How many operations of a log aren't looked at by themselves: barriers, and the loads that aren't kept.
+    pub(crate) fn passed_over(&self, known: &KnownLog) -> usize {
+        let mut total: usize = 0;
+        for (processor, list) in known.log().lists.iter().enumerate() {
+            total = total.saturating_add(self.passed_over_in(known, processor, list));
+        }
+        total
+    }
+
+    /// How many of a processor's operations.
+    fn passed_over_in(
+        &self,
+        known: &KnownLog,
+        processor: usize,
+        list: &[LoggedOperation],
+    ) -> usize {
+        let mut total: usize = 0;
+        for (operation, logged) in list.iter().enumerate() {
+            let number = number_of(known, processor, operation).unwrap_or(0);
+            if !self.looks_at(number, logged.operation) {
+                total = total.saturating_add(1);
+            }
+        }
+        total
+    }
+
+    /// Whether an operation of this number is a store, a swap, or a load that is kept.
+    fn looks_at(&self, number: usize, operation: LogOperation) -> bool {
+        match operation {
+            LogOperation::St { .. } | LogOperation::Sw { .. } => true,
+            LogOperation::Ld { .. } => self.keeps(number),
+            LogOperation::Mb | LogOperation::Sb => false,
+        }
+    }
+
     /// Whether the load of this number is kept.
     pub(crate) fn keeps(&self, number: usize) -> bool {
         self.kept.get(number).copied().unwrap_or(false)

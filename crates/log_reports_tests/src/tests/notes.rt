@@ -64,7 +64,7 @@ fn hand_on(log: &mut String, flag: u64) -> Result<u64, AllocError> {
 }
 
 /// A log under PSO in which three processors store to so many addresses each, all of them.
-fn stores(alloc: Global, addresses: u64) -> Result<String, AllocError> {
+pub(super) fn stores(alloc: Global, addresses: u64) -> Result<String, AllocError> {
     let mut log = String::new(alloc);
     log.push_str("model pso\n")?;
     for a in 0..addresses {

@@ -1,5 +1,6 @@
-use Rattle.std.proofs.Common.{arith}
+use Rattle.std.proofs.Common.{◌∙◌, List, ℕ, ap, arith, sym}
 use Rattle.log_text.specs.LogValues.{log_value}
+use Rattle.log_reports.specs.LogRefusals.{log_refusal_text}
 use Rattle.log_reports.proofs.ReadFacts.{all_consumed, all_read, log_said, on_ok, refusal_said}
 use Rattle.log_reports.proofs.reports.read_report.Goals as goal
 
@@ -19,7 +20,9 @@ returns-in_ok-refuse-in-Err-clause-report g c =
     let small = c.in_ok-text.text.small in
     let all = all_read (g.R.Read.remaining c.args.reader.now) c.in_ok-text.text.items c.in_ok-text.ensures.prefix (omega (arith, small)) in
     let (other, says, gives) = c.in_ok-refuse-in-Err.ensures in
-    refusal_said c.args.options (g.R.Read.remaining c.args.reader.now) _ _ all c.deref.ensures.value c.in-Err.fault.line c.in-Err.fault.why _ _ (c.in-Err.ensures.refused other) says gives
+    let same = c.deref-in-Err.ensures.value ∙ sym c.deref.ensures.value in
+    let said = says ∙ ap (λ (l : List ℕ). log_refusal_text c.args.options.form l c.in-Err.fault.line c.in-Err.fault.why) same in
+    refusal_said c.args.options (g.R.Read.remaining c.args.reader.now) _ _ all c.deref.ensures.value c.in-Err.fault.line c.in-Err.fault.why _ _ (c.in-Err.ensures.refused other) said gives
 
 pub returns-in_ok-refuse-in-Err-clause-taken : goal.returns-in_ok-refuse-in-Err-clause-taken
 returns-in_ok-refuse-in-Err-clause-taken g c =

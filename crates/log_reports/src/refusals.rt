@@ -1,0 +1,65 @@
+//! What is said of a refused log.
+ghost use Rattle.std.specs.Prelude.{◌≡◌, ◌++◌, OnOk, string_bytes};
+ghost use Rattle.log_reports.specs.LogRefusals.{log_refusal_explanation, log_sentence, said_of_refusal};
+
+use crate::refusal_sentences::{BAD_LINE, BAD_MODEL, BAD_NUMBER, INIT_ORDER, PROCESSOR_RANGE};
+use crate::rendering::LogForm;
+use std::alloc::AllocError;
+use trace_explanation::explain_refusal;
+use tso_text::{TextFault, Why};
+
+/// Appends what is said of a log that is refused by this fault, where explanations are asked for: the line that decided, where
+/// there is one, and the rule that it breaks. It follows the line of the refusal. OutOfMemory where an allocation was refused.
+pub(crate) fn push_said_of_refusal(
+    text: &mut String,
+    form: LogForm,
+    input: &[u8],
+    fault: TextFault,
+) -> Result<(), AllocError>
+    ensures { OnOk result (string_bytes text.new ≡ string_bytes text.old ++ said_of_refusal form input.now fault.line fault.why) }
+{
+    match form {
+        LogForm::Lines => Ok(()),
+        LogForm::Explained => explain_log_refusal(text, input, fault),
+        LogForm::Traces => Ok(()),
+    }
+}
+
+/// Appends the line that decided, where there is one, and the rule that it breaks.
+fn explain_log_refusal(text: &mut String, input: &[u8], fault: TextFault) -> Result<(), AllocError>
+    ensures { OnOk result (string_bytes text.new ≡ string_bytes text.old ++ log_refusal_explanation input.now fault.line fault.why) }
+{
+    // Traces have no rule of this name: of such a refusal the line alone is said.
+    let alone = TextFault {
+        line: fault.line,
+        why: Why::ProcessorRange,
+    };
+    explain_refusal(text, input, alone)?;
+    text.push_str(log_sentence(fault.why))?;
+    Ok(())
+}
+
+/// The rule that a log with this refusal breaks. A log never gets the other refusals, and OutOfMemory is no rule.
+#[tactic(auto, unfolding(crate::specs::LogRefusals::log_sentence))]
+fn log_sentence(why: Why) -> &'static str
+    ensures { result.now ≡ log_sentence why }
+{
+    match why {
+        Why::BadLine => BAD_LINE,
+        Why::BadNumber => BAD_NUMBER,
+        Why::BadModel => BAD_MODEL,
+        Why::InitOrder => INIT_ORDER,
+        Why::ProcessorRange => PROCESSOR_RANGE,
+        Why::BadHeader
+        | Why::BeforeProc
+        | Why::TooManyProcessors
+        | Why::TooManyEvents
+        | Why::AddressRange
+        | Why::ZeroValue
+        | Why::RepeatedValue
+        | Why::MissingEnd
+        | Why::AfterEnd
+        | Why::TooLong
+        | Why::OutOfMemory => "",
+    }
+}

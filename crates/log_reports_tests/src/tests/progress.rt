@@ -1,0 +1,109 @@
+//! What a meter hears of a log.
+
+use super::LINES;
+use super::notes::stores;
+use log_reports::{LogMeter, LogVerdict, report_log};
+use progress_meters::Meter;
+use std::cell::Cell;
+use std::process::Abort;
+use std::sync::Wait;
+use std::test::Fail;
+use std::thread::Threads;
+
+/// Counts the operations of which the meter of a log hears.
+#[derive(Drop)]
+struct OperationCount {
+    expected: Cell<u64>,
+    passed: Cell<u64>,
+}
+
+impl Meter for OperationCount {
+    fn advance(&self, count: u64) {
+        self.passed.set(self.passed.get().saturating_add(count));
+    }
+}
+
+impl LogMeter for OperationCount {
+    fn expect_operations(&self, count: u64) {
+        self.expected.set(self.expected.get().saturating_add(count));
+    }
+}
+
+/// Compares the verdict on a log, how many operations are expected, and how many are passed, with this number.
+fn expect_passed<H: Threads + Wait + AllocGlobal + Abort>(
+    rt: &H,
+    log: &str,
+    verdict: LogVerdict,
+    operations: u64,
+) {
+    let mut written = Vec::new(rt.alloc());
+    let mut errors = Vec::new(rt.alloc());
+    let mut reader = log.as_bytes();
+    let meter = OperationCount {
+        expected: Cell::new(0),
+        passed: Cell::new(0),
+    };
+    let said = report_log(rt, LINES, &meter, &mut reader, &mut written, &mut errors);
+    assert!(rt; said == Ok(verdict), "{log}");
+    assert!(rt; meter.expected.get() == operations, "{log}");
+    assert!(rt; meter.passed.get() == operations, "{log}");
+}
+
+/// Logs with their verdicts, and how many operations each has.
+static LOGS: [(&str, LogVerdict, u64); 8] = [
+    // loads that say nothing new, of which the search looks at two
+    (
+        "0 st 1 1\n0 ld 1 1\n0 ld 1 1\n1 ld 1 1\n1 ld 1 1\n1 ld 1 1\n",
+        LogVerdict::NoViolation,
+        6,
+    ),
+    // stores that nobody reads, and barriers
+    (
+        "0 st 1 1\n0 mb\n0 st 2 1\n0 stbar\n1 st 1 2\n1 ld 1 2\n",
+        LogVerdict::NoViolation,
+        6,
+    ),
+    // barriers alone
+    ("0 mb\n1 mb\n", LogVerdict::NotAllJudged, 2),
+    // a load with two possible sources
+    (
+        "0 st 1 5\n1 st 1 5\n2 ld 1 5\n2 ld 2 0\n",
+        LogVerdict::NoViolation,
+        4,
+    ),
+    // swaps, one of which read what several stored
+    (
+        "0 sw 1 0 1\n1 sw 1 1 2\n2 sw 2 0 3\n3 st 2 3\n4 sw 2 3 4\n",
+        LogVerdict::NoViolation,
+        5,
+    ),
+    // a violation, whose loads are taken back
+    (
+        "0 st 1 1\n0 st 2 2\n1 ld 3 0\n1 ld 2 2\n1 ld 1 0\n2 ld 1 1\n",
+        LogVerdict::Violation,
+        6,
+    ),
+    // two swaps that read one first value
+    (
+        "0 sw 1 0 1\n1 sw 1 0 2\n2 ld 1 2\n",
+        LogVerdict::Violation,
+        3,
+    ),
+    // an operation that a line leaves out
+    (
+        "0 st 1 1\n1 un 1\n0 st 2 1\n1 ld 2 1\n",
+        LogVerdict::NoViolation,
+        2,
+    ),
+];
+
+/// Each operation of a log is passed once, also where its addresses are searched in parts.
+#[test]
+fn operations_are_passed_once(rt: HostRuntime) -> Result<(), Fail> {
+    for (log, verdict, operations) in &LOGS {
+        expect_passed(&rt, *log, *verdict, *operations);
+    }
+    let log = stores(rt.alloc(), 200)?;
+    expect_passed(&rt, &log, LogVerdict::NoViolation, 800);
+    Ok(())
+}
