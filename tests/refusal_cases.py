@@ -49,6 +49,7 @@ WITH_REFUSED_REQUESTS = "\n".join([
 3 draw --workers 1 examples/unwritten_load.trace
 3 draw --workers 3 examples/store_buffering_with_barriers.trace
 3 draw files/sixty_events_under_pso.trace
+3 draw --edges field examples/litmus/S.trace
 0 draw files/two_hundred_events.trace
 2 draw examples/missing_end.trace
 3 reduce examples/store_buffering_with_barriers.trace

@@ -1,5 +1,6 @@
-"""The page of tools/sort-violations: its groups in a table, and for each its picture, its explanation, its reduced traces and where
-its violations stand in the stream. It stands alone: nothing is fetched, and there is no script in it."""
+"""The page of tools/sort-violations: its groups in a table, and for each its picture in words of the field, its explanation, the
+picture by the explanation's steps, its reduced traces and where its violations stand in the stream. What colours and names in the
+pictures say is told once. It stands alone: nothing is fetched, and there is no script in it."""
 
 from __future__ import annotations
 
@@ -9,6 +10,7 @@ import html
 import os
 import re
 import subprocess
+from typing import NamedTuple
 
 STYLE = """\
 body { font-family: sans-serif; line-height: 1.4; margin: 2em auto; max-width: 70em; padding: 0 1em; color: #222; background: #fff }
@@ -20,8 +22,12 @@ pre { background: #f4f4f4; overflow-x: auto; padding: .6em 1em }
 .sides { display: flex; flex-wrap: wrap; gap: 1em 2em; align-items: flex-start }
 .sides > * { margin: 0; min-width: 0 }
 svg { height: auto; max-width: 100% }
+figcaption { font-size: .85em; margin-top: .8em }
+figcaption ul { margin: .2em 0 0; padding-left: 1.4em }
 summary { cursor: pointer }
 """
+# The caption of a picture, whose first lines are the verdict and how much is drawn; then comes what colours and names say.
+CAPTION = re.compile(r'^  label="(.*?)(blue edge: .*)?";$', re.MULTILINE)
 
 
 class Failure(Exception):
@@ -37,11 +43,39 @@ def output_of(command, text, statuses):
     return done.stdout
 
 
-def picture_of(program, trace, prefix):
-    """The picture of a trace as an element of a page, with ids that begin so."""
-    drawn = output_of(["dot", "-Tsvg"], output_of([program, "draw"], trace.encode(), (3,)), (0,)).decode("utf-8")
-    element = re.sub(r"<!--.*?-->\n?", "", drawn[drawn.index("<svg"):], flags=re.DOTALL).rstrip()
+class Content(NamedTuple):
+    """What is shown of a reduced trace: its picture in words of the field, what that says of colours and names, the picture by steps,
+    None where it is the same, and the explanation."""
+
+    picture: str
+    legend: list
+    by_steps: str | None
+    explanation: str
+
+
+def drawn(text, prefix):
+    """A text for Graphviz as an element of a page, with ids that begin so."""
+    picture = output_of(["dot", "-Tsvg"], text.encode(), (0,)).decode("utf-8")
+    element = re.sub(r"<!--.*?-->\n?", "", picture[picture.index("<svg"):], flags=re.DOTALL).rstrip()
     return re.sub(r'(<[a-z]+(?: [a-z:]+="[^"]*")*? id=")', rf"\g<1>{prefix}", element)
+
+
+def content_of(program, numbered):
+    """What is shown of the first reduced trace of a group."""
+    number, group = numbered
+    trace = group.traces[0][0].encode()
+    in_words, by_steps = (output_of([program, "draw", "--edges", edges], trace, (3,)).decode("ascii") for edges in ("field", "rules"))
+    legend = [line for line in CAPTION.search(in_words)[2].split(r"\l") if line]
+    return Content(drawn(CAPTION.sub(r'  label="\1";', in_words), f"picture-{number}-"), legend,
+                   None if by_steps == in_words else drawn(by_steps, f"steps-{number}-"), explanation_of(program, group.traces[0][0]))
+
+
+def new_legends(contents):
+    """Of each content what its legend says that none before it says."""
+    told = set()
+    for content in contents:
+        yield [line for line in content.legend if line not in told]
+        told |= set(content.legend)
 
 
 def explanation_of(program, trace):
@@ -53,34 +87,45 @@ def folded(summary, content):
     return f"<details>\n<summary>{summary}</summary>\n{content}\n</details>\n"
 
 
+def place_of(group, number):
+    """A number in the stream, with where its trace is from, of which a file's name may have any character."""
+    return html.escape(group.place(number))
+
+
 def further_traces(group):
     """The reduced traces of a group but the first, folded."""
-    parts = [f"<p>{len(numbers)}, the first is trace {group.place(numbers[0])}:</p>\n<pre>{html.escape(trace)}</pre>"
+    parts = [f"<p>{len(numbers)}, the first is trace {place_of(group, numbers[0])}:</p>\n<pre>{html.escape(trace)}</pre>"
              for trace, numbers in group.traces[1:]]
     return folded(f"{len(parts)} more reduced traces of this shape", "\n".join(parts)) if parts else ""
 
 
-def section_of(program, numbered):
+def legend_of(lines):
+    """What colours and names say, where it is told."""
+    rows = "".join(f"<li>{html.escape(line)}</li>\n" for line in lines)
+    return f"<figcaption>A column is a processor. What colours and names say:\n<ul>\n{rows}</ul></figcaption>" if lines else ""
+
+
+def section_of(number, group, content, legend):
     """What the page says of a group."""
-    number, group = numbered
     trace, numbers = group.traces[0]
+    by_steps = folded("The picture with the numbers of the explanation's steps", content.by_steps) if content.by_steps else ""
     positions = group.positions
     return f"""\
 <section id="group-{number}">
 <h2>Group {number}: {html.escape(group.name or "no known test")}</h2>
-<p>Shape <code>{html.escape(group.shape)}</code>. {len(positions)} violations, the first is trace {group.place(positions[0])} of the stream. \
+<p>Shape <code>{html.escape(group.shape)}</code>. {len(positions)} violations, the first is trace {place_of(group, positions[0])} of the stream. \
 <a href="#groups">All groups</a></p>
 <div class="sides">
-<figure>{picture_of(program, trace, f"picture-{number}-")}</figure>
+<figure>{content.picture}{legend_of(legend)}</figure>
 <div>
 <h3>Reduced trace</h3>
-<p>{len(numbers)} of the group's violations are reduced to it, the first is trace {group.place(numbers[0])}.</p>
+<p>{len(numbers)} of the group's violations are reduced to it, the first is trace {place_of(group, numbers[0])}.</p>
 <pre>{html.escape(trace)}</pre>
 </div>
 </div>
 <h3>Why it can't be</h3>
-<pre>{html.escape(explanation_of(program, trace))}</pre>
-{folded(f"{len(positions)} positions in the stream", f"<p>{', '.join(map(group.place, positions))}</p>")}{further_traces(group)}</section>
+<pre>{html.escape(content.explanation)}</pre>
+{by_steps}{folded(f"{len(positions)} positions in the stream", f"<p>{', '.join(place_of(group, number) for number in positions)}</p>")}{further_traces(group)}</section>
 """
 
 
@@ -113,9 +158,7 @@ says what shapes and names mean. <code>tsobench explain --nth N</code> explains 
 <tbody>
 {rows}</tbody>
 </table>
-<p>In a picture a column is a processor. Red is the cycle, each event before the next; the number at an edge is its step in the \
-explanation. A blue edge leads from a store to a load that read it; a load in a blue box read the first value. \
-The cycle of picture and explanation may be another than that of the shape, where a trace has several.</p>
+<p>The cycle of picture and explanation may be another than that of the shape, where a trace has several.</p>
 {"".join(sections)}</body>
 </html>
 """
@@ -124,7 +167,8 @@ The cycle of picture and explanation may be another than that of the shape, wher
 def write(path, program, stream, groups, workers):
     """Writes the page, of which no part stands there before all is made."""
     with concurrent.futures.ThreadPoolExecutor(workers) as pool:
-        sections = list(pool.map(functools.partial(section_of, program), enumerate(groups, 1)))
+        contents = list(pool.map(functools.partial(content_of, program), enumerate(groups, 1)))
+    sections = [section_of(number, *parts) for number, parts in enumerate(zip(groups, contents, new_legends(contents)), 1)]
     shown = "standard input" if stream == "-" else stream.encode("utf-8", "replace").decode("utf-8")
     with open(path, "w", encoding="utf-8") as file:
         file.write(page_of(shown, groups, sections))

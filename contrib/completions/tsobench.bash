@@ -23,6 +23,7 @@ _tsobench() {
         explain/--effort) ;;
         explain/--workers) ;;
         explain/--nth) ;;
+        draw/--edges) words='rules field' ;;
         draw/--effort) ;;
         draw/--workers) ;;
         draw/--nth) ;;
@@ -69,7 +70,7 @@ _tsobench() {
         judge/*) words='--workers --nth --verbose -h --help' files=yes ;;
         decide/*) words='--effort --workers --nth --verbose -h --help' files=yes ;;
         explain/*) words='--decide --effort --workers --nth --verbose -h --help' files=yes ;;
-        draw/*) words='--decide --effort --workers --nth --verbose -h --help' files=yes ;;
+        draw/*) words='--edges --decide --effort --workers --nth --verbose -h --help' files=yes ;;
         reduce/*) words='--nth --verbose -h --help' files=yes ;;
         batch/*) words='--workers --format --quiet --violations --decide --effort --require --progress --verbose -h --help' files=yes ;;
         log/*) words='--most --effort --max-unknown --ended --trace --explain --progress --verbose -h --help' files=yes ;;

@@ -21,10 +21,12 @@ use Rattle.command_line.specs.declared.options.LogForm.{LogForm}
 use Rattle.command_line.specs.declared.options.LogOptions.{LogOptions}
 use Rattle.command_line.specs.declared.options.RunOptions.{RunOptions}
 use Rattle.command_line.specs.declared.options.UnitOptions.{UnitOptions}
-use Rattle.command_line.specs.Requests.{Asked, Text, asked_of, batching, capacity_limit, checking, drain_turns_limit, log_effort_limit, log_violation_limit, logging, number_limit, percent_limit, prints_trace, refusing, repeating, replaying, run_times_limit, running, verifying, worker_limit}
+use Rattle.command_line.specs.Requests.{Asked, Text, asked_of, batching, capacity_limit, checking, deciding, drain_turns_limit, judging, log_effort_limit, log_violation_limit, logging, number_limit, percent_limit, prints_trace, refusing, repeating, replaying, run_times_limit, running, verifying, worker_limit}
+use Rattle.command_line.specs.declared.options.Presentation.{Presentation}
 use Rattle.command_line.specs.declared.options.Printing.{Printing}
+use Rattle.command_line.specs.Pictures.{chosen_picture, picture_of}
 use Rattle.command_line.specs.declared.requests.Request.{Request}
-use Rattle.command_line.specs.Subcommands.{batch, batch_printing_of, batch_texts, check, file_of, is_true, log, log_form_of, log_options_in, log_options_of, log_parameters, number_of, number_or, outcomes, outcomes_asked, pair_of, printing_of, replay, run, run_asked, run_of, run_parameters, unit_of, verify, within, workers_of}
+use Rattle.command_line.specs.Subcommands.{batch, batch_printing_of, batch_texts, check, decision_asked, draw, explain, file_of, is_true, log, log_form_of, log_options_in, log_options_of, log_parameters, number_of, number_or, outcomes, outcomes_asked, pair_of, presented, printing_of, replay, run, run_asked, run_of, run_parameters, unit_of, verdict_asked, verify, within, workers_of}
 use Rattle.command_line.specs.Commands.{asked_in, given_in}
 
 -- the file that a value names which was asked for by its id
@@ -147,6 +149,11 @@ pub batch_asked : (rows : List Row) (names : List Text) (texts : Option (List (O
     → option_map_or (λ ts. batching ts workers printing) texts refusing ≡ asked_in batch rows
 batch_asked rows names texts names_are texts_are workers printing workers_are printing_is = rw (texts_are, names_are, workers_are, printing_is) refl
 
+-- what `draw` asks for in this form, where there is one
+pub draw_asked : (rows : List Row) (picture : Option Presentation) → picture ≡ picture_of (is_true (one_of (codes "decide") rows)) (chosen_picture (first_of (codes "edges") rows))
+    → option_map_or (λ presentation. presented presentation (given_in explain.parameters rows)) picture refusing ≡ asked_in draw rows
+draw_asked rows picture picture_is = rw picture_is refl
+
 -- what `explain` and `draw` ask for, where an effort is given with a decision or none is
 pub asked_with_effort : (decides : Bool) (given effort : ℕ) → Some effort ≡ (if decides then Some given else None) → (ask : ℕ → Asked) (verdict : Asked) → ask effort ≡ (if decides then ask given else verdict)
 asked_with_effort true given effort is ask verdict = ap ask (same_Some effort given is)
@@ -221,6 +228,20 @@ module _ (P : Asked → Type 0) (refused : P refusing) where
           → (turns ≤ drain_turns_limit → P (repeating options.unit seed turns times program)) → turns ≤ drain_turns_limit → P (run_asked options seed turns times program)
       by_times options seed turns times program first second few =
           by_one (times == 1) _ _ (first few) (by_trace (prints_trace options.printing) _ (second few))
+
+  pub of_draw : ((presentation : Presentation) (file : Option Text) (workers : ℕ) (nth : Option ℕ) → 1 ≤ workers → workers ≤ worker_limit → P (judging presentation file workers nth))
+      → ((presentation : Presentation) (file : Option Text) (workers : ℕ) (nth : Option ℕ) (effort : ℕ) → 1 ≤ workers → workers ≤ worker_limit → P (deciding presentation file workers nth effort))
+      → (rows : List Row) → P (asked_in draw rows)
+  of_draw judged decided rows =
+      of_any (λ presentation. presented presentation given) (λ presentation. either presentation (is_true (one_of (codes "decide") rows)))
+      (picture_of (is_true (one_of (codes "decide") rows)) (chosen_picture (first_of (codes "edges") rows)))
+    where
+      given : Text → Option Text
+      given = given_in draw.parameters rows
+
+      either : (presentation : Presentation) (decides : Bool) → P (if decides then decision_asked presentation given else verdict_asked presentation given)
+      either presentation true = decided presentation _ _ _ _ (omega arith) (omega arith)
+      either presentation false = judged presentation _ _ _ (omega arith) (omega arith)
 
   pub of_log : ((file : Option Text) (options : LogOptions) → 1 ≤ options.most → options.most ≤ log_violation_limit → options.effort ≤ log_effort_limit → options.max_unknown ≤ percent_limit → P (logging file options)) → (rows : List Row) → P (asked_in log rows)
   of_log asked rows = go (log_form_of (is_true (given_in log.parameters rows (codes "trace"))) (is_true (given_in log.parameters rows (codes "explain"))))

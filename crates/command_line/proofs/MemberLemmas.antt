@@ -20,7 +20,8 @@ use Rattle.command_line.specs.Commands.{by_subcommand, memory_of, program_app, t
 use Rattle.command_line.specs.Internal.Computed.{help_option_of, parsed_as}
 use Rattle.command_line.specs.Refusals.{is_subcommand}
 use Rattle.command_line.specs.Requests.{Text}
-use Rattle.command_line.specs.Subcommands.{Subcommand, known_names, subcommands}
+use Rattle.command_line.specs.Subcommands.{Subcommand, subcommands}
+use Rattle.command_line.specs.Names.{known_names}
 use Rattle.command_line.specs.declared.options.OptionNames.{OptionNames}
 
 -- what is the same of each of a list is the same of one of them

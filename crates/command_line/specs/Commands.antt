@@ -13,9 +13,10 @@ use Rattle.command_line.specs.declared.options.OptionNames.{OptionNames}
 use Rattle.command_line.specs.declared.options.Presentation.TheVariants.{Report}
 use Rattle.command_line.specs.declared.requests.Notes.{Notes}
 use Rattle.command_line.specs.declared.parameters.NameList.{NameList}
-use Rattle.command_line.specs.declared.parameters.NameList.TheVariants.{Units, Models, Formats}
+use Rattle.command_line.specs.declared.parameters.NameList.TheVariants.{Units, Models, Formats, Edges}
 use Rattle.command_line.specs.Requests.{Text, Asked, judging, refusing, showing}
-use Rattle.command_line.specs.Subcommands.{Subcommand, asks, known_names, no_notes, notes_of, subcommands, text_by_name}
+use Rattle.command_line.specs.Subcommands.{Subcommand, asks, no_notes, notes_of, subcommands, text_by_name}
+use Rattle.command_line.specs.Names.{known_names}
 
 -- ---- the command line
 
@@ -24,8 +25,9 @@ abbrev pub memory_of : OptionNames → NameList → Bor (List (Bor Text))
 memory_of names Units = names.units
 memory_of names Models = names.models
 memory_of names Formats = names.formats
+memory_of names Edges = names.edges
 
--- the lists in memory have the names of the units, of the memory models and of the formats
+-- the lists in memory have the names of the units, of the memory models, of the formats and of the names of edges
 abbrev pub HasKnownNames : OptionNames → Type 0
 HasKnownNames names = (list : NameList) → map (λ name. name.now) (memory_of names list).now ≡ known_names list
 
@@ -75,7 +77,7 @@ IsAskedBy [] found asked = asked ≡ asked_by found
 IsAskedBy kinds found asked = (kind : ErrorKind) × IsAmong kind kinds × (asked ≡ asked_at kind)
 
 -- what `clap` says that the arguments ask for, where `--unit` takes the names of the units, `--model` those of the memory
--- models, and `--format` those of the formats
+-- models, `--format` those of the formats, and `--edges` those of the names of edges
 abbrev pub IsAskedFor : List Text → Asked → Type 0
 IsAskedFor arguments asked = (names : OptionNames) × HasKnownNames names
     × IsAskedBy (fault_of (tsobench_app names) arguments) (subcommand_of (tsobench_app names) arguments) asked

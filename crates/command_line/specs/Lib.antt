@@ -4,6 +4,7 @@ pub mod Spelled
 pub mod Offered
 pub mod Requests
 pub mod Names
+pub mod Pictures
 pub mod Subcommands
 pub mod Spellings
 pub mod Refusals

@@ -1,11 +1,15 @@
--- The units, the memory models and the formats of a batch, each with the name by which an option takes it.
+-- The units, the memory models, the formats of a batch and the pictures by the names of edges, each with the name by which an option takes it.
 use Rattle.std.specs.Prelude.{List, [], ◌∷◌, codes, map}
 use Rattle.tso_ops.specs.declared.settings.Order.{Order}
 use Rattle.tso_ops.specs.declared.settings.Order.TheVariants.{Tso, Pso}
 use Rattle.command_line.specs.declared.options.BatchFormat.{BatchFormat}
 use Rattle.command_line.specs.declared.options.BatchFormat.TheVariants.{Words, Json, Junit}
+use Rattle.command_line.specs.declared.options.Presentation.{Presentation}
+use Rattle.command_line.specs.declared.options.Presentation.TheVariants.{Picture, FieldPicture}
 use Rattle.command_line.specs.declared.options.UnitKind.{UnitKind}
 use Rattle.command_line.specs.declared.options.UnitKind.TheVariants.{Serial, Buffer, Partial, Faulty}
+use Rattle.command_line.specs.declared.parameters.NameList.{NameList}
+use Rattle.command_line.specs.declared.parameters.NameList.TheVariants.{Units, Models, Formats, Edges}
 use Rattle.command_line.specs.Requests.{Text}
 use Rattle.unit_faulty.specs.Faulty.{fault_name}
 use Rattle.unit_faulty.specs.declared.kinds.FaultKind.TheVariants.{NewestFirst, NoForward, StaleLoad, TornSwap, IdleMembar, LostDrain}
@@ -23,3 +27,14 @@ models = (codes "tso", Tso) ∷ (codes "pso", Pso) ∷ []
 -- the formats of a batch, each with its name
 abbrev pub formats : List (Text × BatchFormat)
 formats = (codes "words", Words) ∷ (codes "json", Json) ∷ (codes "junit", Junit) ∷ []
+
+-- the forms of a picture, each with the name of the names that its edges have
+abbrev pub pictures : List (Text × Presentation)
+pictures = (codes "rules", Picture) ∷ (codes "field", FieldPicture) ∷ []
+
+-- the names that an option takes
+abbrev pub known_names : NameList → List Text
+known_names Units = map (λ unit. unit.0) units
+known_names Models = map (λ model. model.0) models
+known_names Formats = map (λ format. format.0) formats
+known_names Edges = map (λ picture. picture.0) pictures

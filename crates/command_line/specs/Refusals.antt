@@ -5,7 +5,8 @@ use Rattle.std.specs.Str.{bytes_eq}
 use Rattle.command_line.specs.Given.{is_value}
 use Rattle.command_line.specs.Spelled.{HaveWrongValue, LeaveOut}
 use Rattle.command_line.specs.Requests.{Text}
-use Rattle.command_line.specs.Subcommands.{Subcommand, known_names, subcommands}
+use Rattle.command_line.specs.Subcommands.{Subcommand, subcommands}
+use Rattle.command_line.specs.Names.{known_names}
 
 -- the text is the name of a subcommand, `help` among them
 abbrev pub is_subcommand : Text → Bool

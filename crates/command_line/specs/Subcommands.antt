@@ -27,6 +27,7 @@ use Rattle.command_line.specs.declared.requests.Notes.{Notes}
 use Rattle.command_line.specs.declared.parameters.NameList.{NameList}
 use Rattle.command_line.specs.declared.parameters.NameList.TheVariants.{Units, Models, Formats}
 use Rattle.command_line.specs.Names.{formats, models, units}
+use Rattle.command_line.specs.Pictures.{chosen_picture, edges, picture_of}
 use Rattle.command_line.specs.Requests.{Text, Asked, batching, campaigning, capacity_limit, checking, counting, deciding, drain_turns_limit, judging, listing, log_effort_limit, log_violation_limit, logging, making, number_limit, percent_limit, prints_trace, reducing, refusing, repeating, replaying, run_times_limit, running, verifying, worker_limit}
 
 pub record Subcommand : Type 0 where
@@ -58,12 +59,6 @@ asks c given files = if list_any is_several c.parameters then with_files files (
 -- the text of the parameter of a name, by the texts of the parameters in their order
 abbrev pub text_by_name : List (Parameter NameList) → List (Option Text) → Text → Option Text
 text_by_name parameters texts name = option_and_then (λ p. p.1) (find (λ p. bytes_eq (id_of p.0) name) (zip parameters texts))
-
--- the names that an option takes
-abbrev pub known_names : NameList → List Text
-known_names Units = map (λ unit. unit.0) units
-known_names Models = map (λ model. model.0) models
-known_names Formats = map (λ format. format.0) formats
 
 -- ---- parameters of several subcommands
 
@@ -248,17 +243,27 @@ judge = record {
   ask = verdict_asked form.Report;
 }
 
--- `NAME [--decide] [--effort N] [--workers N] [--nth K] [--verbose] [FILE]`: presents the verdict on a trace as `judge` has it, or the decision as `decide` has it, in
--- this form
-abbrev pub present_as : Text → Presentation → Subcommand
-present_as name presentation = record {
-  name = name;
+-- the verdict on a trace as `judge` has it, or the decision as `decide` has it where it is asked for, in this form
+abbrev pub presented : Presentation → (Text → Option Text) → Asked
+presented presentation given = if is_true (given (codes "decide")) then decision_asked presentation given else verdict_asked presentation given
+
+-- `explain [--decide] [--effort N] [--workers N] [--nth K] [--verbose] [FILE]`: explains the verdict or the decision
+abbrev pub explain : Subcommand
+explain = record {
+  name = codes "explain";
   parameters = flag (codes "decide") ∷ effort ∷ workers ∷ nth ∷ verbose ∷ other (codes "file") false ∷ [];
-  ask = λ given. if is_true (given (codes "decide")) then decision_asked presentation given else verdict_asked presentation given;
+  ask = presented form.Explanation;
 }
 
--- `decide [--effort N] [--workers N] [--nth K] [--verbose] [FILE]`: decides whether the trace in a file, or on standard input, or of the traces that stand there
--- one after the other that of a number, has an order that meets the axioms of its memory model; after 100,000 steps at most where the effort is left out
+-- `draw [--edges NAMES] [--decide] [--effort N] [--workers N] [--nth K] [--verbose] [FILE]`: draws the verdict or the decision
+abbrev pub draw : Subcommand
+draw = record {
+  name = codes "draw";
+  parameters = edges ∷ explain.parameters;
+  ask = λ given. option_map_or (λ presentation. presented presentation given) (picture_of (is_true (given (codes "decide"))) (chosen_picture (given (codes "edges")))) refusing;
+}
+
+-- `decide [--effort N] [--workers N] [--nth K] [--verbose] [FILE]`: decides on such a trace, after 100,000 steps at most where the effort is left out
 abbrev pub decide : Subcommand
 decide = record {
   name = codes "decide";
@@ -266,8 +271,7 @@ decide = record {
   ask = decision_asked form.Report;
 }
 
--- `reduce [--nth K] [--verbose] [FILE]`: reduces the trace in a file, or on standard input, or of the traces that stand there one after the other that of a
--- number
+-- `reduce [--nth K] [--verbose] [FILE]`: reduces such a trace
 abbrev pub reduce : Subcommand
 reduce = record {
   name = codes "reduce";
@@ -393,5 +397,4 @@ campaign = record {
 
 abbrev pub subcommands : List Subcommand
 subcommands =
-    judge ∷ decide ∷ present_as (codes "explain") form.Explanation ∷ present_as (codes "draw") form.Picture
-    ∷ reduce ∷ batch ∷ log ∷ check ∷ verify ∷ outcomes ∷ replay ∷ run ∷ make ∷ campaign ∷ []
+    judge ∷ decide ∷ explain ∷ draw ∷ reduce ∷ batch ∷ log ∷ check ∷ verify ∷ outcomes ∷ replay ∷ run ∷ make ∷ campaign ∷ []

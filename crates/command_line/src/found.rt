@@ -3,12 +3,14 @@ ghost use Rattle.std.specs.Prelude.{◌≡◌, [], codes, count_by, false, is_no
 ghost use Rattle.clap.specs.Words.{first_of, found_of, one_of, rows_of};
 ghost use Rattle.command_line.specs.Commands.{asked_in, given_in};
 ghost use Rattle.command_line.specs.Requests.{asked_of, files_of, refusing};
-ghost use Rattle.command_line.specs.Subcommands.{batch, batch_printing_of, batch_texts, campaign, check, decide, file_of, is_true, judge, log, log_form_of, log_options_of, log_parameters, make, pair_of, present_as, printing_of, reduce, replay, run_of, run_parameters, shape_of, shape_parameters, unit_of, unit_parameters, verify};
+ghost use Rattle.command_line.specs.Subcommands.{batch, batch_printing_of, batch_texts, campaign, check, decide, explain, file_of, is_true, judge, log, log_form_of, log_options_of, log_parameters, make, pair_of, presented, printing_of, reduce, replay, run_of, run_parameters, shape_of, shape_parameters, unit_of, unit_parameters, verify};
 
 pub(crate) use outcomes::outcomes;
+pub(crate) use pictures::draw;
 pub(crate) use runs::run;
 
 mod outcomes;
+mod pictures;
 mod runs;
 
 use crate::help;
@@ -40,9 +42,9 @@ pub(crate) fn judge<'a>(matches: &ArgMatches<'a>) -> Request<'a>
     })
 }
 
-/// Of `explain` and `draw`, which present the verdict, or the decision where it is asked for, in this form.
+/// Of `explain`, and of `draw` in a form that it has, which present the verdict, or the decision where it is asked for, in this form.
 pub(crate) fn present<'a>(matches: &ArgMatches<'a>, presentation: Presentation) -> Request<'a>
-    ensures { asked_of result ≡ asked_in (present_as (codes "explain") presentation) (rows_of (found_of matches.now)) }
+    ensures { asked_of result ≡ presented presentation (given_in explain.parameters (rows_of (found_of matches.now))) }
 {
     match decision_effort(matches) {
         Some(effort) => Request::Decide(DecideRequest {

@@ -68,6 +68,13 @@ error: the argument '--states' cannot be used with '--seen <STREAM>'
 For more information, try '--help'.
 ";
 
+/// The refusal of `--decide` with `--edges field`.
+pub(crate) const DECIDED_FIELD: &str = "\
+error: the argument '--edges field' cannot be used with '--decide'
+
+For more information, try '--help'.
+";
+
 /// The refusal of `--trace` with `--explain`.
 pub(crate) const BOTH: &str = "\
 error: the argument '--trace' cannot be used with '--explain'

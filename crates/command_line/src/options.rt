@@ -2,7 +2,7 @@
 ghost use Rattle.std.specs.Prelude.{◌≡◌};
 ghost use Rattle.command_line.specs.Given.{value_named};
 ghost use Rattle.command_line.specs.Commands.{HasKnownNames};
-ghost use Rattle.command_line.specs.Names.{formats, models, units};
+ghost use Rattle.command_line.specs.Names.{formats, models, pictures, units};
 ghost use Rattle.command_line.specs.Requests.{prints_trace};
 
 use tso_ops::Order;
@@ -97,9 +97,11 @@ pub(crate) struct OptionNames<'a> {
     pub(crate) models: &'a [&'a str],
     /// Those of the formats of a batch.
     pub(crate) formats: &'a [&'a str],
+    /// Those of the names that the edges of a picture have.
+    pub(crate) edges: &'a [&'a str],
 }
 
-/// The names of all kinds of units, of all memory models and of all formats.
+/// The names of all kinds of units, of all memory models, of all formats and of all names of edges.
 pub(crate) fn option_names() -> OptionNames<'static>
     ensures { HasKnownNames result }
 {
@@ -107,6 +109,7 @@ pub(crate) fn option_names() -> OptionNames<'static>
         units: UNIT_NAMES.as_slice(),
         models: MODEL_NAMES.as_slice(),
         formats: FORMAT_NAMES.as_slice(),
+        edges: EDGES_NAMES.as_slice(),
     }
 }
 
@@ -130,6 +133,22 @@ pub enum Presentation {
     Explanation,
     /// A picture of the trace and of what was found, as a text for Graphviz.
     Picture,
+    /// Such a picture of a verdict, with the names of the field at the edges of the cycle. No decision is asked for in this form.
+    FieldPicture,
+}
+
+/// The names of the names that the edges of a picture have, as `--edges` takes them; `picture_named` knows each.
+static EDGES_NAMES: [&str; 2] = ["rules", "field"];
+
+/// The form of a picture whose edges have the names of this name.
+pub(crate) fn picture_named(name: &str) -> Option<Presentation>
+    ensures { result ≡ value_named name.now pictures }
+{
+    match name {
+        "rules" => Some(Presentation::Picture),
+        "field" => Some(Presentation::FieldPicture),
+        _ => None,
+    }
 }
 
 /// What is printed of a run or a replay.

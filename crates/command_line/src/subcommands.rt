@@ -124,7 +124,7 @@ impl Subcommand {
             Subcommand::Judge => Ok(found::judge(matches)),
             Subcommand::Decide => Ok(found::decide(matches)),
             Subcommand::Explain => Ok(found::present(matches, Presentation::Explanation)),
-            Subcommand::Draw => Ok(found::present(matches, Presentation::Picture)),
+            Subcommand::Draw => found::draw(alloc, matches),
             Subcommand::Reduce => Ok(found::reduce(matches)),
             Subcommand::Batch => found::batch(alloc, matches),
             Subcommand::Log => found::log(alloc, matches),

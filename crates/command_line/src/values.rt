@@ -2,10 +2,12 @@
 ghost use Rattle.std.specs.Prelude.{◌≡◌, ◌≤◌, codes, if◌then◌else◌, option_map, None, Some};
 ghost use Rattle.clap.specs.Words.{first_of, found_of, one_of, rows_of};
 ghost use Rattle.command_line.specs.Requests.{drain_turns_limit, run_times_limit, worker_limit};
+ghost use Rattle.command_line.specs.Pictures.{chosen_picture};
 ghost use Rattle.command_line.specs.Subcommands.{chosen_format, chosen_order, file_of, is_true, number_of, number_or, within};
 
 use crate::options::{
-    BatchFormat, MAX_DRAIN_TURNS, MAX_RUN_TIMES, MAX_WORKERS, format_named, order_named,
+    BatchFormat, MAX_DRAIN_TURNS, MAX_RUN_TIMES, MAX_WORKERS, Presentation, format_named,
+    order_named, picture_named,
 };
 use clap::ArgMatches;
 use tso_ops::Order;
@@ -45,6 +47,14 @@ pub(crate) fn format(matches: &ArgMatches<'_>) -> BatchFormat
 {
     let named = matches.get_str("format").and_then(format_named);
     named.unwrap_or(BatchFormat::Words)
+}
+
+/// The form of a picture: with the names of rules where no names of edges are named.
+pub(crate) fn picture(matches: &ArgMatches<'_>) -> Presentation
+    ensures { result ≡ chosen_picture (first_of (codes "edges") (rows_of (found_of matches.now))) }
+{
+    let named = matches.get_str("edges").and_then(picture_named);
+    named.unwrap_or(Presentation::Picture)
 }
 
 /// The number of a trace among those that stand one after the other; none where it is left out.

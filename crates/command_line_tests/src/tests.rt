@@ -6,6 +6,7 @@ use std::process::Abort;
 use std::test::Fail;
 
 mod accepted;
+mod drawn;
 mod notes;
 mod refused;
 mod refused_runs;

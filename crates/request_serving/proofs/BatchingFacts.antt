@@ -1,9 +1,9 @@
 -- Lemmas on batches.
-use Rattle.std.proofs.Common.{◌≡◌, ◌∙◌, ◌+◌, ◌<◌, ◌≤◌, ℕ, Bool, true, false, true≢false, ◌&&◌, cond, List, [], ◌∷◌, ◌++◌, Err, None, Ok, Result, Some, IfErr, IfOk, IfSome, ap, append_assoc, arith, drop, get_or, inl, inr, is_some, length, map, option_map, refl, subst, sym, take}
+use Rattle.std.proofs.Common.{◌≡◌, ◌∙◌, ◌+◌, ◌<◌, ◌≤◌, ℕ, Bool, true, false, true≢false, ◌&&◌, cond, List, [], ◌∷◌, ◌++◌, Err, None, Ok, Result, Some, IfErr, IfOk, IfSome, ap, ap₂, append_assoc, arith, drop, get_or, inl, inr, is_some, length, map, option_map, refl, subst, sym, take}
 use Rattle.std.specs.Prelude.{OnErr, OnOk, Option, count_by, filter_map, is_none, not, option_to_list}
 use Rattle.std.specs.Borrow.{Bor}
 use Rattle.std.specs.List.{list_all}
-use Rattle.std.specs.Io.KnownBytes.{Consumes, Keeps}
+use Rattle.std.specs.Io.KnownBytes.{Appends, Consumes, Keeps}
 use Rattle.std.proofs.KnownBytes.{Appends-kept}
 use Rattle.std.proofs.Math.Bool.{and-false, and-true}
 use Rattle.std.proofs.Math.Seq.{take-append_seam}
@@ -13,42 +13,103 @@ use Rattle.std.proofs.lemmas.List.Sums.{sum_by-append, sum_by-cons}
 use Rattle.trace_batches.specs.declared.batches.BatchMethod.{BatchMethod}
 use Rattle.trace_batches.specs.declared.batches.BatchPrinting.{BatchPrinting}
 use Rattle.trace_batches.specs.declared.begun.Batch.{Batch}
-use Rattle.trace_batches.specs.Batches.{AreResults, AreResultsOf, BatchText, HasWritten, IsBatchFault, Judges, LeavesBatch, LeavesText, TextResults, WritesBatch}
-use Rattle.trace_batches.proofs.WholeFacts.{judged_left, judged_more}
+use Rattle.trace_batches.specs.Batches.{AreResults, AreResultsOf, BatchText, HasJudged, HasWritten, IsBatchFault, Judges, LeavesBatch, LeavesText, TextResults, WritesBatch, head_text, read_text, unread_text}
+use Rattle.trace_judging.specs.Streams.{AppendsPrefix}
+use Rattle.trace_batches.proofs.WholeFacts.{begun, head_left, judged_left, judged_more}
 use Rattle.trace_judging.specs.declared.faults.Fault.{Fault}
 use Rattle.trace_batches.specs.declared.tallies.BatchVerdict.{BatchVerdict}
-use Rattle.request_serving.specs.Batches.{are_several, batch_text, status_of_batch, texts_of_batch, told_name}
+use Rattle.request_serving.specs.Batches.{AreNamedTexts, AreTextsOfBatch, IsNamedText, are_several, status_of_batch, told_name}
 use Rattle.request_serving.specs.Endings.{EndsBatched, Outputs, WritesFaultLine}
 use Rattle.request_serving.specs.Internal.Batching.{files_in}
-use Rattle.request_serving.specs.OpenedFiles.{HasKnown, OpensFirst, OpensNext, text_bytes}
+use Rattle.request_serving.specs.OpenedFiles.{HasKnown, OpensFirst, OpensNext}
 use Rattle.request_serving.proofs.EndFacts.{known_reads}
 
 -- ---- texts of files of which less may be known
 
 module _ (name : Option (List ℕ)) (known remaining : Option (List ℕ)) (has : HasKnown known remaining) where
-  results_of_known : (method : BatchMethod) (results : TextResults) → AreResultsOf method (record { name = name; bytes = remaining }) results →
-      AreResultsOf method (record { name = name; bytes = known }) results
-  results_of_known method results are = (are.0, known_reads known remaining has (λ stream. AreResults method stream results.pieces results.judgments) are.1)
+  results_of_known : (method : BatchMethod) (results : TextResults) → AreResultsOf method (read_text name remaining) results → AreResultsOf method (read_text name known) results
+  results_of_known method results are = (are.0, are.1, known_reads known remaining has (λ stream. AreResults method stream results.pieces results.judgments) are.2)
 
-  pub judges_known : (before after : Batch) (old new : Option (List ℕ)) → Judges (record { name = name; bytes = remaining }) before after old new → Judges (record { name = name; bytes = known }) before after old new
-  judges_known before after old new judges printing all judged =
+  judges_known : (before after : Batch) (old new e f : Option (List ℕ)) → Judges (read_text name remaining) before after old new e f → Judges (read_text name known) before after old new e f
+  judges_known before after old new e f judges printing all judged =
       let one = judges printing all judged in
+      (one.0, results_of_known printing.method one.0 one.1, one.2, one.3, one.4)
+
+  leaves_known : (before : Batch) (old new e f : Option (List ℕ)) → LeavesText (read_text name remaining) before old new e f → LeavesText (read_text name known) before old new e f
+  leaves_known before old new e f left printing all judged =
+      let one = left printing all judged in
       (one.0, results_of_known printing.method one.0 one.1, one.2, one.3)
 
-  pub leaves_known : (before : Batch) (old new : Option (List ℕ)) → LeavesText (record { name = name; bytes = remaining }) before old new → LeavesText (record { name = name; bytes = known }) before old new
-  leaves_known before old new left printing all judged =
-      let one = left printing all judged in
-      (one.0, results_of_known printing.method one.0 one.1, one.2)
+-- the text of an opened file, and of one that couldn't be opened
+module _ (name input : Option (List ℕ)) (files : List ℕ → Option (List ℕ)) (file : List ℕ) where
+  pub in_file : {E : Type 0} (remaining : Option (List ℕ)) → HasKnown (files file) remaining → (before after : Batch) (old new e f : Option (List ℕ)) (outcome : Result Unit E) →
+      OnOk outcome (Judges (read_text name remaining) before after old new e f) → OnOk outcome ((text : BatchText) × IsNamedText name input files (Some file) text × Judges text before after old new e f)
+  in_file remaining has before after old new e f (Ok done) judges = (read_text name (files file), inl refl, judges_known name (files file) remaining has before after old new e f judges)
+  in_file remaining has before after old new e f (Err fault) judges = tt
 
-  pub on_ok_known : {E : Type 0} (before after : Batch) (old new : Option (List ℕ)) (outcome : Result Unit E) → OnOk outcome (Judges (record { name = name; bytes = remaining }) before after old new) →
-      OnOk outcome (Judges (record { name = name; bytes = known }) before after old new)
-  on_ok_known before after old new (Ok done) judges = judges_known before after old new judges
-  on_ok_known before after old new (Err fault) judges = tt
+  pub left_in_file : {E : Type 0} (remaining : Option (List ℕ)) → HasKnown (files file) remaining → (before : Batch) (old new e f : Option (List ℕ)) (outcome : Result Unit E) →
+      OnErr outcome (LeavesText (read_text name remaining) before old new e f) → OnErr outcome ((text : BatchText) × IsNamedText name input files (Some file) text × LeavesText text before old new e f)
+  left_in_file remaining has before old new e f (Ok done) left = tt
+  left_in_file remaining has before old new e f (Err fault) left = (read_text name (files file), inl refl, leaves_known name (files file) remaining has before old new e f left)
 
-  pub on_err_known : {E : Type 0} (before : Batch) (old new : Option (List ℕ)) (outcome : Result Unit E) → OnErr outcome (LeavesText (record { name = name; bytes = remaining }) before old new) →
-      OnErr outcome (LeavesText (record { name = name; bytes = known }) before old new)
-  on_err_known before old new (Ok done) left = tt
-  on_err_known before old new (Err fault) left = leaves_known before old new left
+  pub in_no_file : {E : Type 0} (before after : Batch) (old new e f : Option (List ℕ)) (outcome : Result Unit E) →
+      OnOk outcome (Judges (unread_text name) before after old new e f) → OnOk outcome ((text : BatchText) × IsNamedText name input files (Some file) text × Judges text before after old new e f)
+  in_no_file before after old new e f (Ok done) judges = (unread_text name, inr refl, judges)
+  in_no_file before after old new e f (Err fault) judges = tt
+
+  pub left_in_no_file : {E : Type 0} (before : Batch) (old new e f : Option (List ℕ)) (outcome : Result Unit E) →
+      OnErr outcome (LeavesText (unread_text name) before old new e f) → OnErr outcome ((text : BatchText) × IsNamedText name input files (Some file) text × LeavesText text before old new e f)
+  left_in_no_file before old new e f (Ok done) left = tt
+  left_in_no_file before old new e f (Err fault) left = (unread_text name, inr refl, left)
+
+-- the text on standard input
+module _ (name input : Option (List ℕ)) (files : List ℕ → Option (List ℕ)) where
+  pub in_input : {E : Type 0} (before after : Batch) (old new e f : Option (List ℕ)) (outcome : Result Unit E) →
+      OnOk outcome (Judges (read_text name input) before after old new e f) → OnOk outcome ((text : BatchText) × IsNamedText name input files None text × Judges text before after old new e f)
+  in_input before after old new e f (Ok done) judges = (read_text name input, refl, judges)
+  in_input before after old new e f (Err fault) judges = tt
+
+  pub left_in_input : {E : Type 0} (before : Batch) (old new e f : Option (List ℕ)) (outcome : Result Unit E) →
+      OnErr outcome (LeavesText (read_text name input) before old new e f) → OnErr outcome ((text : BatchText) × IsNamedText name input files None text × LeavesText text before old new e f)
+  left_in_input before old new e f (Ok done) left = tt
+  left_in_input before old new e f (Err fault) left = (read_text name input, refl, left)
+
+-- ---- texts of a batch
+
+module _ (several : Bool) (input : Option (List ℕ)) (bytes : List ℕ → Option (List ℕ)) where
+  named-append : (files others : List (Option (List ℕ))) (texts more : List BatchText) → AreNamedTexts several input bytes files texts → AreNamedTexts several input bytes others more →
+      AreNamedTexts several input bytes (files ++ others) (texts ++ more)
+  named-append [] others [] more first second = second
+  named-append (file ∷ files) others (text ∷ texts) more first second = (first.0, named-append files others texts more first.1 second)
+  named-append files others texts more first second = absurd first
+
+  -- where each file is opened
+  some_text : (file : Option (List ℕ)) → (text : BatchText) × IsNamedText (told_name several file) input bytes file text
+  some_text None = (read_text (told_name several None) input, refl)
+  some_text (Some name) = (read_text (told_name several (Some name)) (bytes name), inl refl)
+
+  some_named : (files : List (Option (List ℕ))) → (texts : List BatchText) × AreNamedTexts several input bytes files texts
+  some_named [] = ([], tt)
+  some_named (file ∷ files) =
+      let one = some_text file in
+      let rest = some_named files in
+      (one.0 ∷ rest.0, (one.1, rest.1))
+
+  -- these are all texts of a batch
+  pub of_all : (Is : List BatchText → Type 0) (files parts : List (Option (List ℕ))) → several ≡ are_several files → files ≡ parts →
+      ((texts : List BatchText) × AreNamedTexts several input bytes parts texts × Is texts) → (texts : List BatchText) × AreTextsOfBatch files input bytes texts × Is texts
+  of_all Is files parts is are one = (
+    one.0,
+    subst (λ b. AreNamedTexts b input bytes files one.0) is (subst (λ fs. AreNamedTexts several input bytes fs one.0) (sym are) one.1),
+    one.2,
+  )
+
+-- nothing but the head was written, or a prefix of it
+pub none_left : (printing : BatchPrinting) (files : List (Option (List ℕ))) (input : Option (List ℕ)) (bytes : List ℕ → Option (List ℕ)) (old new before : Option (List ℕ)) →
+    AppendsPrefix old new (head_text printing) → (texts : List BatchText) × AreTextsOfBatch files input bytes texts × LeavesBatch printing texts old new before before
+none_left printing files input bytes old new before written =
+    let some = some_named (are_several files) input bytes files in
+    (some.0, some.1, head_left printing some.0 old new before written)
 
 -- ---- which texts are on standard input
 
@@ -125,20 +186,6 @@ unread_so_far [] (Some name) later all before this = this ∙ before refl
 unread_so_far (None ∷ files) file later all before this = absurd (true≢false (sym all))
 unread_so_far (Some name ∷ files) file later all before this = unread_so_far files file later all before this
 
--- what is left of the batch of texts, of which these are some
-pub of_all : (several : Bool) (printing : BatchPrinting) (input : Option (List ℕ)) (bytes : List ℕ → Option (List ℕ)) (old new errors : Option (List ℕ)) (files parts : List (Option (List ℕ))) →
-    several ≡ are_several files → files ≡ parts → LeavesBatch printing (map (batch_text several input bytes) parts) old new errors errors → LeavesBatch printing (texts_of_batch files input bytes) old new errors errors
-of_all several printing input bytes old new errors files parts is are left =
-    subst (λ b. LeavesBatch printing (map (batch_text b input bytes) files) old new errors errors) is
-    (subst (λ fs. LeavesBatch printing (map (batch_text several input bytes) fs) old new errors errors) (sym are) left)
-
--- all of them were judged
-pub written_all : (several : Bool) (batch : Batch) (printing : BatchPrinting) (input : Option (List ℕ)) (bytes : List ℕ → Option (List ℕ)) (old new : Option (List ℕ)) (files parts : List (Option (List ℕ))) →
-    several ≡ are_several files → parts ≡ files → HasWritten batch printing (map (batch_text several input bytes) parts) old new → HasWritten batch printing (texts_of_batch files input bytes) old new
-written_all several batch printing input bytes old new files parts is are written =
-    subst (λ b. HasWritten batch printing (map (batch_text b input bytes) files) old new) is
-    (subst (λ fs. HasWritten batch printing (map (batch_text several input bytes) fs) old new) are written)
-
 -- the files of texts: those before one, its own, and those after it
 pub files_at : (texts : List (Option (Bor (List ℕ)))) (i : ℕ) (text : Option (Bor (List ℕ))) → i < length texts → text ≡ get_or texts i text →
     files_in texts ≡ files_in (take i texts) ++ option_map (λ f. f.now) text ∷ files_in (drop (i + 1) texts)
@@ -153,41 +200,47 @@ pub files_more : (texts : List (Option (Bor (List ℕ)))) (i : ℕ) (text : Opti
 files_more texts i text inside at = ap files_in (take_more texts i text inside ∙ ap (λ t. take i texts ++ t ∷ []) (sym at)) ∙ files_push (take i texts) text
 
 -- standard input is read by the last of them at most
-module _ {R : Type 0} (remaining : R → Option (List ℕ)) (several : Bool) (input : Option (List ℕ)) (bytes : List ℕ → Option (List ℕ)) where
-  abbrev text_for : Option (List ℕ) → BatchText
-  text_for file = batch_text several input bytes file
-
+module _ {R : Type 0} (remaining : R → Option (List ℕ)) (several : Bool) (input : Option (List ℕ)) (bytes : List ℕ → Option (List ℕ)) (printing : BatchPrinting) where
   -- these texts were judged, one after the other
-  pub record AreJudged (before after : Batch) (written_before written : Option (List ℕ)) (opened_before opened : Option (List (List ℕ))) (reader_before reader : R) (now : List ℕ → Option (List ℕ))
+  pub record AreJudged (batch : Batch) (old written before errors : Option (List ℕ)) (opened_before opened : Option (List (List ℕ))) (reader_before reader : R) (now : List ℕ → Option (List ℕ))
       (files : List (Option (List ℕ))) : Type 0 where
-    pub each : (printing : BatchPrinting) (old : Option (List ℕ)) → HasWritten before printing [] old written_before → HasWritten after printing (map text_for files) old written
+    pub each : (texts : List BatchText) × AreNamedTexts several input bytes files texts × HasWritten batch printing texts old written before errors
     pub same : now ≡ bytes
     pub opens : OpensNext opened_before opened (filter_map (λ f. f) files)
     pub unread : list_all is_some files ≡ true → reader ≡ reader_before
     pub taken : list_all is_some files ≡ false → IfSome (remaining reader_before) (λ all. Consumes (remaining reader_before) (remaining reader) all)
 
-  pub none_judged : (batch : Batch) (written : Option (List ℕ)) (opened : Option (List (List ℕ))) (reader : R) → AreJudged batch batch written written opened opened reader reader bytes []
-  none_judged batch written opened reader = record { each = λ printing old w. w; same = refl; opens = opens_nothing opened; unread = λ all. refl; taken = λ all. absurd (true≢false all) }
+  pub none_judged : (batch : Batch) (old written before : Option (List ℕ)) (opened : Option (List (List ℕ))) (reader : R) → HasJudged batch printing [] → Appends old written (head_text printing) →
+      AreJudged batch old written before before opened opened reader reader bytes []
+  none_judged batch old written before opened reader judged head = record {
+    each = ([], tt, begun batch printing old written before judged head);
+    same = refl;
+    opens = opens_nothing opened;
+    unread = λ all. refl;
+    taken = λ all. absurd (true≢false all);
+  }
 
-  module _ (before mid : Batch) (w0 w1 : Option (List ℕ)) (o0 o1 : Option (List (List ℕ))) (r0 r1 : R) (now : List ℕ → Option (List ℕ)) (files : List (Option (List ℕ))) (is_input : input ≡ remaining r0)
-      (so_far : AreJudged before mid w0 w1 o0 o1 r0 r1 now files) (file : Option (List ℕ)) (later : List (Option (List ℕ))) (few : count_by is_none (files ++ file ∷ later) ≤ 1) where
+  module _ (mid : Batch) (old w1 before e1 : Option (List ℕ)) (o0 o1 : Option (List (List ℕ))) (r0 r1 : R) (now : List ℕ → Option (List ℕ)) (files : List (Option (List ℕ))) (is_input : input ≡ remaining r0)
+      (so_far : AreJudged mid old w1 before e1 o0 o1 r0 r1 now files) (file : Option (List ℕ)) (later : List (Option (List ℕ))) (few : count_by is_none (files ++ file ∷ later) ≤ 1) where
     -- the text that is judged next is the next of the batch
-    text_is : (name : Option (List ℕ)) → name ≡ told_name several file → ◌≡◌ {A = BatchText} (record { name = name; bytes = text_bytes file (remaining r1) now }) (text_for file)
-    text_is name is = go file few is
+    is_next : (text : BatchText) (name : Option (List ℕ)) → name ≡ told_name several file → IsNamedText name (remaining r1) now file text → IsNamedText (told_name several file) input bytes file text
+    is_next text name is = go file few is
       where
-        go : (f : Option (List ℕ)) → count_by is_none (files ++ f ∷ later) ≤ 1 → name ≡ told_name several f → ◌≡◌ {A = BatchText} (record { name = name; bytes = text_bytes f (remaining r1) now }) (text_for f)
-        go None few is =
-            let same : remaining r1 ≡ input = ap remaining (so_far.unread (one_input files later few)) ∙ sym is_input in
-            rw (is, same) refl
-        go (Some n) few is = let same = so_far.same in rw (is, same) refl
+        go : (f : Option (List ℕ)) → count_by is_none (files ++ f ∷ later) ≤ 1 → name ≡ told_name several f → IsNamedText name (remaining r1) now f text → IsNamedText (told_name several f) input bytes f text
+        go None few is one = one ∙ ap₂ read_text is (ap remaining (so_far.unread (one_input files later few)) ∙ sym is_input)
+        go (Some n) few is (inl one) = inl (one ∙ ap₂ (λ a (fs : List ℕ → Option (List ℕ)). read_text a (fs n)) is so_far.same)
+        go (Some n) few is (inr one) = inr (one ∙ ap unread_text is)
 
-    pub next_judged : (after : Batch) (w2 : Option (List ℕ)) (o2 : Option (List (List ℕ))) (r2 : R) (later_now : List ℕ → Option (List ℕ)) (name : Option (List ℕ)) → name ≡ told_name several file →
-        Judges (record { name = name; bytes = text_bytes file (remaining r1) now }) mid after w1 w2 → later_now ≡ now → OpensNext o1 o2 (option_to_list file) → IfSome file (λ _. r2 ≡ r1) →
-        (file ≡ None → IfSome (remaining r1) (λ all. Consumes (remaining r1) (remaining r2) all)) → AreJudged before after w0 w2 o0 o2 r0 r2 later_now (files ++ file ∷ [])
-    next_judged after w2 o2 r2 later_now name is judges same opens unread taken = record {
-      each = λ printing old w.
-          let more = judged_more mid printing (map text_for files) old w1 (so_far.each printing old w) after (text_for file) w2 (subst (λ t. Judges t mid after w1 w2) (text_is name is) judges) in
-          subst (λ ts. HasWritten after printing ts old w2) (sym (map-append text_for files (file ∷ []))) more;
+    pub next_judged : (after : Batch) (w2 e2 : Option (List ℕ)) (o2 : Option (List (List ℕ))) (r2 : R) (later_now : List ℕ → Option (List ℕ)) (name : Option (List ℕ)) → name ≡ told_name several file →
+        ((text : BatchText) × IsNamedText name (remaining r1) now file text × Judges text mid after w1 w2 e1 e2) → later_now ≡ now → OpensNext o1 o2 (option_to_list file) → IfSome file (λ _. r2 ≡ r1) →
+        (file ≡ None → IfSome (remaining r1) (λ all. Consumes (remaining r1) (remaining r2) all)) → AreJudged after old w2 before e2 o0 o2 r0 r2 later_now (files ++ file ∷ [])
+    next_judged after w2 e2 o2 r2 later_now name is one same opens unread taken = record {
+      each =
+          let judged = so_far.each in (
+            judged.0 ++ one.0 ∷ [],
+            named-append several input bytes files (file ∷ []) judged.0 (one.0 ∷ []) judged.1 (is_next one.0 name is one.1, tt),
+            judged_more mid printing judged.0 old w1 before e1 judged.2 after one.0 w2 e2 one.2,
+          );
       same = same ∙ so_far.same;
       opens = subst (OpensNext o0 o2) (sym (named_push files file)) (opens_more o0 o1 o2 (filter_map (λ f. f) files) (option_to_list file) so_far.opens opens);
       unread = λ all. all_unread file unread (sym (all_push files file) ∙ all);
@@ -208,11 +261,15 @@ module _ {R : Type 0} (remaining : R → Option (List ℕ)) (several : Bool) (in
             subst (λ (r : R). IfSome (remaining r0) (λ all. Consumes (remaining r0) (remaining r) all)) (sym kept) (so_far.taken (sym (and-true (list_all is_some files)) ∙ some))
 
     -- what is left where a fault comes while it is judged
-    pub next_left : (w2 : Option (List ℕ)) (name : Option (List ℕ)) → name ≡ told_name several file → LeavesText (record { name = name; bytes = text_bytes file (remaining r1) now }) mid w1 w2 →
-        (printing : BatchPrinting) (old errors : Option (List ℕ)) → HasWritten before printing [] old w0 → LeavesBatch printing (map text_for (files ++ file ∷ later)) old w2 errors errors
-    next_left w2 name is left printing old errors w =
-        subst (λ ts. LeavesBatch printing ts old w2 errors errors) (sym (map-append text_for files (file ∷ later)))
-        (judged_left mid printing (map text_for files) old w1 (so_far.each printing old w) (text_for file) (map text_for later) w2 errors (subst (λ t. LeavesText t mid w1 w2) (text_is name is) left))
+    pub next_left : (w2 e2 : Option (List ℕ)) (name : Option (List ℕ)) → name ≡ told_name several file → ((text : BatchText) × IsNamedText name (remaining r1) now file text × LeavesText text mid w1 w2 e1 e2) →
+        (texts : List BatchText) × AreNamedTexts several input bytes (files ++ file ∷ later) texts × LeavesBatch printing texts old w2 before e2
+    next_left w2 e2 name is one =
+        let judged = so_far.each in
+        let rest = some_named several input bytes later in (
+          judged.0 ++ one.0 ∷ rest.0,
+          named-append several input bytes files (file ∷ later) judged.0 (one.0 ∷ rest.0) judged.1 (is_next one.0 name is one.1, rest.1),
+          judged_left mid printing judged.0 old w1 before e1 judged.2 one.0 rest.0 w2 e2 one.2,
+        )
 
 -- what holds whatever is answered holds at an answer
 pub if_ok : {T E P : Type 0} (result : Result T E) → P → IfOk result (λ _. P)
@@ -254,10 +311,20 @@ read_files files reads = go (list_all is_some files) reads
 
 -- ---- how a batch ends
 
-pub ends_batched : (printing : BatchPrinting) (texts : List BatchText) (noted : Option (List ℕ)) (o : Outputs) (outcome : Result BatchVerdict Fault) (status : ℕ)
-    → IfOk outcome (WritesBatch printing texts o.written_before o.written o.errors_before noted) → OnErr outcome (LeavesBatch printing texts o.written_before o.written o.errors_before noted)
+-- at an answer
+pub done_of : {T E : Type 0} {Is Then : T → Type 0} (outcome : Result T E) → ((x : T) → Is x → Then x) → IfOk outcome Is → IfOk outcome Then
+done_of (Ok x) more is = more x is
+done_of (Err e) more is = tt
+
+noted_kept : (printing : BatchPrinting) (texts : List BatchText) (old new before noted errors : Option (List ℕ)) (verdict : BatchVerdict) → WritesBatch printing texts old new before noted verdict →
+    Keeps noted errors → WritesBatch printing texts old new before errors verdict
+noted_kept printing texts old new before noted errors verdict writes kept = (writes.0, writes.1, writes.2, writes.3, Appends-kept before noted errors writes.1 writes.4 kept)
+
+pub ends_batched : (printing : BatchPrinting) (are_texts : List BatchText → Type 0) (noted : Option (List ℕ)) (o : Outputs) (outcome : Result BatchVerdict Fault) (status : ℕ)
+    → IfOk outcome (λ verdict. (texts : List BatchText) × are_texts texts × WritesBatch printing texts o.written_before o.written o.errors_before noted verdict)
+    → OnErr outcome ((texts : List BatchText) × are_texts texts × LeavesBatch printing texts o.written_before o.written o.errors_before noted)
     → IfErr outcome IsBatchFault → IfOk outcome (λ verdict. (status ≡ status_of_batch verdict) × Keeps noted o.errors) → IfErr outcome (λ fault. WritesFaultLine noted o.errors fault × (status ≡ 4))
-    → EndsBatched printing texts o status
-ends_batched printing texts noted o (Ok verdict) status writes left fault done faulty =
-    inl (verdict, (writes.0, writes.1, writes.2, writes.3, Appends-kept o.errors_before noted o.errors writes.1 writes.4 done.1), done.0)
-ends_batched printing texts noted o (Err why) status writes left fault done faulty = inr (why, fault, (noted, left, faulty.0), faulty.1)
+    → EndsBatched printing are_texts o status
+ends_batched printing are_texts noted o (Ok verdict) status writes left fault done faulty =
+    inl (verdict, (writes.0, writes.1, noted_kept printing writes.0 o.written_before o.written o.errors_before noted o.errors verdict writes.2 done.1), done.0)
+ends_batched printing are_texts noted o (Err why) status writes left fault done faulty = inr (why, fault, (noted, left, faulty.0), faulty.1)

@@ -4,7 +4,7 @@ use Rattle.std.specs.Prelude.{Option, option_map, slice_get}
 use Rattle.std.specs.Global.{Vec}
 use Rattle.std.specs.Io.KnownBytes.{Appends}
 use Rattle.command_line.specs.declared.options.Presentation.{Presentation}
-use Rattle.command_line.specs.declared.options.Presentation.TheVariants.{Report, Explanation, Picture}
+use Rattle.command_line.specs.declared.options.Presentation.TheVariants.{Report, Explanation, Picture, FieldPicture}
 use Rattle.trace_batches.specs.NthPieces.{IsKeptOfNth, IsNthPiece}
 use Rattle.trace_batches.proofs.PieceFacts.{one_list_of_pieces}
 use Rattle.trace_explanation.specs.Explained.{whole_explained}
@@ -34,6 +34,7 @@ pub shows_no_whole : (presentation : Presentation) → ShowsNoWhole (said_as pre
 shows_no_whole Report = λ a b why. refl
 shows_no_whole Explanation = whole_explained
 shows_no_whole Picture = λ a b why. refl
+shows_no_whole FieldPicture = λ a b why. refl
 
 presented_of_first : (presentation : Presentation) (piece text : List ℕ) (verdict : Verdict) → IsTextOfInput (said_as presentation) (refused_as presentation) (take trace_read_limit piece) text verdict →
     IsTextOfInput (said_as presentation) (refused_as presentation) piece text verdict

@@ -1,17 +1,16 @@
 -- The texts of a batch, and what is printed of it, as they were asked for.
-use Rattle.std.specs.Prelude.{ℕ, Bool, List, Option, Some, None, codes, length, map, nat_lt, unwrap_or, if◌then◌else◌}
+use Rattle.std.specs.Prelude.{◌≡◌, ◌⊎◌, ℕ, Bool, List, [], ◌∷◌, Option, Some, None, codes, length, nat_lt, unwrap_or, if◌then◌else◌}
 use Rattle.command_line.specs.declared.options.BatchFormat.{BatchFormat as AskedFormat}
 use Rattle.command_line.specs.declared.options.BatchFormat.TheVariants as asked
 use Rattle.command_line.specs.declared.options.BatchPrinting.{BatchPrinting as AskedPrinting}
-use Rattle.trace_batches.specs.Batches.{BatchText}
+use Rattle.trace_batches.specs.Batches.{BatchText, read_text, unread_text}
 use Rattle.trace_batches.specs.declared.batches.BatchFormat.{BatchFormat}
 use Rattle.trace_batches.specs.declared.batches.BatchFormat.TheVariants.{Words, Json, Junit}
 use Rattle.trace_batches.specs.declared.batches.BatchMethod.{BatchMethod}
 use Rattle.trace_batches.specs.declared.batches.BatchMethod.TheVariants.{Judge, Decide}
 use Rattle.trace_batches.specs.declared.batches.BatchPrinting.{BatchPrinting}
 use Rattle.trace_batches.specs.declared.tallies.BatchVerdict.{BatchVerdict}
-use Rattle.trace_batches.specs.declared.tallies.BatchVerdict.TheVariants.{NoViolation, Violation, Undecided, Refused}
-use Rattle.request_serving.specs.OpenedFiles.{text_bytes}
+use Rattle.trace_batches.specs.declared.tallies.BatchVerdict.TheVariants.{NoViolation, Violation, Undecided, Refused, Unread}
 
 abbrev pub asked_format : AskedFormat → BatchFormat
 asked_format asked.Words = Words
@@ -30,19 +29,28 @@ asked_printing printing = record { method = asked_method printing.effort; format
 abbrev pub told_name : Bool → Option (List ℕ) → Option (List ℕ)
 told_name several file = if several then Some (unwrap_or file (codes "-")) else None
 
--- the text in a file, or on standard input
-abbrev pub batch_text : Bool → Option (List ℕ) → (List ℕ → Option (List ℕ)) → Option (List ℕ) → BatchText
-batch_text several input files file = record { name = told_name several file; bytes = text_bytes file input files }
+-- This is the text of this name on standard input, or in a file; or its file couldn't be opened, and of which files that is so no definition says.
+abbrev pub IsNamedText : Option (List ℕ) → Option (List ℕ) → (List ℕ → Option (List ℕ)) → Option (List ℕ) → BatchText → Type 0
+IsNamedText name input files None text = text ≡ read_text name input
+IsNamedText name input files (Some file) text = (text ≡ read_text name (files file)) ⊎ (text ≡ unread_text name)
+
+-- these are texts on standard input and in files, one each, in order
+abbrev pub AreNamedTexts : Bool → Option (List ℕ) → (List ℕ → Option (List ℕ)) → List (Option (List ℕ)) → List BatchText → Type 0
+AreNamedTexts several input files [] [] = Unit {0}
+AreNamedTexts several input files [] (text ∷ texts) = ⊥
+AreNamedTexts several input files (file ∷ others) [] = ⊥
+AreNamedTexts several input files (file ∷ others) (text ∷ texts) = IsNamedText (told_name several file) input files file text × AreNamedTexts several input files others texts
 
 abbrev pub are_several : List (Option (List ℕ)) → Bool
 are_several texts = nat_lt 1 (length texts)
 
--- the texts of a batch, where standard input has these bytes, and the file of each name those
-abbrev pub texts_of_batch : List (Option (List ℕ)) → Option (List ℕ) → (List ℕ → Option (List ℕ)) → List BatchText
-texts_of_batch texts input files = map (batch_text (are_several texts) input files) texts
+-- these are the texts of a batch of files, where standard input has these bytes, and the file of each name those
+abbrev pub AreTextsOfBatch : List (Option (List ℕ)) → Option (List ℕ) → (List ℕ → Option (List ℕ)) → List BatchText → Type 0
+AreTextsOfBatch named input files texts = AreNamedTexts (are_several named) input files named texts
 
 abbrev pub status_of_batch : BatchVerdict → ℕ
 status_of_batch NoViolation = 0
 status_of_batch Undecided = 1
 status_of_batch Refused = 2
 status_of_batch Violation = 3
+status_of_batch Unread = 4

@@ -18,7 +18,7 @@ use Rattle.log_reports.specs.declared.reports.LogOptions.{LogOptions}
 use Rattle.log_reports.specs.LogReports.{IsLogReportOfReader}
 use Rattle.outcome_reports.specs.Outcomes.{IsOutcomesOfReader}
 use Rattle.outcome_reports.specs.SeenTraces.{IsSeenOfReaders}
-use Rattle.request_serving.specs.Batches.{asked_printing, status_of_batch, texts_of_batch}
+use Rattle.request_serving.specs.Batches.{AreTextsOfBatch, asked_printing, status_of_batch}
 use Rattle.request_serving.specs.Campaigning.{IsCampaignText, LeavesCampaignText}
 use Rattle.request_serving.specs.Deciding.{IsDecided, IsVerificationOfNth, status_of_answer}
 use Rattle.request_serving.specs.Logs.{options_of, status_of_log}
@@ -103,13 +103,15 @@ IsCheckOfNth nth traces certs text verdict = ReadsAs traces (λ input. IsSaidOfN
 abbrev pub EndsWithoutThread : {X : Type 0} → (List ℕ → X → Type 0) → (X → ℕ) → Outputs → ℕ → Type 0
 EndsWithoutThread {X} is_text status_by o status = Ends is_text status_by (λ old new fault. (fault ≢ NoThread) × LeavesAtFault is_text old new fault) o status
 
--- What is printed of the traces of texts, which stand one after the other: the output grows by the text of their batch, and the errors
+-- What is printed of the traces of such texts, which stand one after the other: the output grows by the text of their batch, and the errors
 -- by its notes. Or a fault left a prefix of both, and then its line was written to the errors.
-abbrev pub EndsBatched : BatchPrinting → List BatchText → Outputs → ℕ → Type 0
-EndsBatched printing texts o status =
-    ((verdict : BatchVerdict) × WritesBatch printing texts o.written_before o.written o.errors_before o.errors verdict × (status ≡ status_of_batch verdict))
+abbrev pub EndsBatched : BatchPrinting → (List BatchText → Type 0) → Outputs → ℕ → Type 0
+EndsBatched printing are_texts o status =
+    ((verdict : BatchVerdict) × ((texts : List BatchText) × are_texts texts × WritesBatch printing texts o.written_before o.written o.errors_before o.errors verdict)
+    × (status ≡ status_of_batch verdict))
     ⊎ ((fault : Fault) × IsBatchFault fault
-    × ((noted : Option (List ℕ)) × LeavesBatch printing texts o.written_before o.written o.errors_before noted × WritesFaultLine noted o.errors fault)
+    × ((noted : Option (List ℕ)) × ((texts : List BatchText) × are_texts texts × LeavesBatch printing texts o.written_before o.written o.errors_before noted)
+    × WritesFaultLine noted o.errors fault)
     × (status ≡ 4))
 
 -- The output grows by a text of this kind, with the status of what the text says; notes on what it doesn't say, or a prefix of them, may be written to the
@@ -165,7 +167,7 @@ EndsAsAsked (judging presentation file workers nth) input files o status = EndsB
 EndsAsAsked (deciding presentation file workers nth effort) input files o status =
     let is_text = IsDecided presentation effort nth (text_bytes file input files) in Ends is_text status_of_answer (LeavesAtFault is_text) o status
 EndsAsAsked (reducing file nth) input files o status = EndsWithNotes (IsReduced nth (text_bytes file input files)) status_of o status
-EndsAsAsked (batching texts workers printing) input files o status = EndsBatched (asked_printing printing) (texts_of_batch texts input files) o status
+EndsAsAsked (batching texts workers printing) input files o status = EndsBatched (asked_printing printing) (AreTextsOfBatch texts input files) o status
 EndsAsAsked (logging file options) input files o status = EndsLogged (options_of options) (text_bytes file input files) o status
 EndsAsAsked (checking trace certificate nth) input files o status = EndsWithoutThread (IsCheckOfNth nth (text_bytes trace input files) (text_bytes certificate input files)) status_of o status
 EndsAsAsked (verifying trace evidence nth) input files o status =

@@ -3,6 +3,7 @@
 
 use crate::hints::Likeness;
 use command_line::Notes;
+use log_reports::LogMeter;
 use progress_meters::Meter;
 use std::cell::Cell;
 use std::io;
@@ -182,6 +183,13 @@ impl<H: Eprint + Clock + AllocGlobal> Meter for &Diagnostics<'_, H> {
             self.done.set(self.done.get().saturating_add(count));
             self.tell_progress();
         }
+    }
+}
+
+impl<H: Eprint + Clock + AllocGlobal> LogMeter for &Diagnostics<'_, H> {
+    fn expect_operations(&self, count: u64) {
+        let (parts, _) = self.counted.get();
+        self.count(parts, Some(count));
     }
 }
 

@@ -32,7 +32,7 @@ pub(crate) const REFUSED: u8 = 2;
 /// The status of a violation, and of a certificate or a refutation that holds.
 const VIOLATION: u8 = 3;
 
-/// The status of a fault.
+/// The status of a fault, and of a batch with a text that can't be read.
 pub(crate) const FAULT: u8 = 4;
 
 /// The status of a verdict; or that of a fault, whose line it writes.
@@ -166,5 +166,6 @@ fn status_of_batch(verdict: BatchVerdict) -> u8
         BatchVerdict::Undecided => NOT_ALL_JUDGED,
         BatchVerdict::Refused => REFUSED,
         BatchVerdict::Violation => VIOLATION,
+        BatchVerdict::Unread => FAULT,
     }
 }

@@ -5,7 +5,7 @@ ghost use Rattle.request_serving.specs.OpenedFiles.{HasKnown, OpensNext};
 
 use crate::diagnostics::{Diagnostics, WatchedReader};
 use command_line::Notes;
-use progress_meters::Meter;
+use log_reports::LogMeter;
 use std::io::Read;
 use std::rt::{Clock, Files};
 use std::{fs, io};
@@ -23,7 +23,7 @@ pub trait Surroundings {
     type File: Read + Drop;
 
     /// What hears how much is done.
-    type Meter: Meter + Copy;
+    type Meter: LogMeter + Copy;
 
     // What the file of a name has, where it is known.
     ghost bytes: { Self → List ℕ → Option (List ℕ) } = { λ _ _. None };

@@ -71,7 +71,8 @@ const _: () = prove!(command_line::MAX_WORKERS == MAX_WORKERS);
 /// its processors. `RunTimes` writes the trace of each run as it ends. `Show` writes its text to `writer`,
 /// with status 0, and `Refuse` to `errors`, with status 2. At a fault the status is 4 and one line, as `FAULT Read`, is written to
 /// `errors`; a file that can't be opened is the fault Read. All files that the request names are opened, in their order,
-/// before one is read; but those of `Batch` each when its turn comes.
+/// before one is read; but those of `Batch` each when its turn comes, and where one can't be opened it judges the others, says so,
+/// and has the same status and last line.
 pub fn serve<H: Threads + Wait + Sync + AllocGlobal, O: Surroundings, R: Read, W: Write, E: Write>(
     rt: &H,
     request: &Request<'_>,

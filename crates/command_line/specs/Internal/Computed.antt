@@ -7,7 +7,6 @@ use Rattle.command_line.specs.Commands.{IsAskedBy, notes_by, tsobench_app}
 use Rattle.command_line.specs.Requests.{Text, Asked}
 use Rattle.command_line.specs.declared.requests.Notes.{Notes}
 use Rattle.command_line.specs.declared.options.OptionNames.{OptionNames}
-use Rattle.command_line.specs.declared.options.Presentation.TheVariants as form
 use Rattle.command_line.specs.Subcommands as s
 use Rattle.command_line.specs.Subcommands.{subcommands}
 use Rattle.command_line.specs.declared.subcommands.Subcommand.{Subcommand}
@@ -37,8 +36,8 @@ parameter_of (declared.Several id value_name help) = several id.now
 abbrev pub member_of : Subcommand → s.Subcommand
 member_of Judge = s.judge
 member_of Decide = s.decide
-member_of Explain = s.present_as (codes "explain") form.Explanation
-member_of Draw = s.present_as (codes "draw") form.Picture
+member_of Explain = s.explain
+member_of Draw = s.draw
 member_of Reduce = s.reduce
 member_of Batch = s.batch
 member_of Log = s.log

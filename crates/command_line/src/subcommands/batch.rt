@@ -15,22 +15,27 @@ that `tsobench judge` gives for the text alone; and at last a line as
 traces 3 violations 1 refused 1. With --quiet the traces without a violation get
 no line. With --violations it prints no lines but the texts of the traces that
 are violations, as they came and in order, which batch reads again; no refused
-text is among them, and the last line goes to standard error. A text of more than
-1,048,576 bytes is refused as TooLong, and the next one is judged. What is
-printed is the same for each number of workers.
+text is among them. After each, standard error gets a line as kept 3 trace 7: the
+third of these texts was trace 7; and the last line goes there too. A text of
+more than 1,048,576 bytes is refused as TooLong, and the next one is judged. What
+is printed is the same for each number of workers.
 
 Of several files each is opened and judged when the one before it was, and each
 line begins with the name of its file, as FILE: trace 1 VIOLATION; the numbers
 begin anew with each file, and the last line is of all files. One of them may be
--, which is standard input. Lines of one FILE, or none, have no name.
+-, which is standard input. Lines of one FILE, or none, have no name. A file that
+can't be opened gets a line FILE: FAULT Read, and the others are judged; at the
+end the status is 4.
 
 With --format json each line is an object of JSON, as
 {\"trace\":1,\"verdict\":\"no_violation_found\"}, {\"trace\":2,\"verdict\":\"violation\"} or
 {\"trace\":3,\"verdict\":\"refused\",\"name\":\"BadLine\",\"line\":3}, and the last one as
 {\"traces\":3,\"violations\":1,\"refused\":1}. Of several files each line begins as
-{\"file\":\"FILE\",\"trace\":1. With --format junit it prints a document in JUnit's XML,
-which test servers read: a test case for each trace, which fails where the trace
-is a violation and has an error where the text is refused.
+{\"file\":\"FILE\",\"trace\":1; of one that can't be opened there is
+{\"file\":\"FILE\",\"fault\":\"Read\"}. With --format junit it prints a document in
+JUnit's XML, which test servers read: a test case for each trace, which fails
+where the trace is a violation and has an error where the text is refused; and
+one with an error for a file that can't be opened.
 
 With --decide the lines say what `tsobench decide` finds: CONSISTENT, which
 --quiet leaves out, VIOLATION, UNDECIDED 100000 after so many steps, or REFUSED,

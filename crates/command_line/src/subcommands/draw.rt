@@ -1,6 +1,6 @@
-//! `draw [--decide] [--effort N] [--workers N] [--nth K] [--verbose] [FILE]`: a picture of the verdict or the decision on a trace.
+//! `draw [--edges NAMES] [--decide] [--effort N] [--workers N] [--nth K] [--verbose] [FILE]`: a picture of the verdict or the decision on a trace.
 
-use crate::parameters::Description;
+use crate::parameters::{Accepted, Description, NameList, Parameter};
 use crate::subcommands::shared;
 
 /// The text of its help after the list of its parameters.
@@ -16,6 +16,10 @@ line, as REFUSED BadLine line 3. The text is the same for each number of
 workers. With --nth K it is of the K-th of the traces that stand one after the
 other, as `tsobench judge` judges it.
 
+With --edges field it draws the cycle that the first line of `tsobench explain`
+names, and calls the cycle's edges po, rf, co and fr, as herd7 does: a caption
+says what these are. There is no such picture of a decision.
+
 With --decide it draws what `tsobench decide` finds, and a caption says that: of
 a consistent trace the number at each event is its place in an order that its
 memory model allows.
@@ -29,6 +33,7 @@ Exit status:
 
 Example:
   tsobench draw TRACE | dot -Tsvg >TRACE.svg
+  tsobench draw --edges field TRACE | dot -Tsvg >FIELD.svg
   tsobench draw --decide TRACE | dot -Tsvg >ORDER.svg";
 
 /// What is told of it.
@@ -37,6 +42,13 @@ pub(crate) static DRAW: Description = Description {
     about: "Draws a trace and why it is a violation, for Graphviz",
     help: HELP,
     parameters: &[
+        Parameter::Option {
+            name: "edges",
+            value_name: "NAMES",
+            accepted: Accepted::Name(NameList::Edges),
+            default: Some("rules"),
+            help: "What the edges of the cycle are called, by rules or as the field does",
+        },
         shared::DECIDE,
         shared::EFFORT,
         shared::WORKERS,

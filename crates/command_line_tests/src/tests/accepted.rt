@@ -3,11 +3,12 @@
 //! What arguments in a usual spelling ask for is proved (`asked` of `read_arguments`); here are, of each subcommand, those with `--` or
 //! a sign, and a few with all options, whose requests were written down without the definitions.
 
+use super::drawn::PICTURES;
 use super::expect_each;
 use std::test::Fail;
 
 /// Arguments about traces and logs.
-static TRACES: [(&[&str], &str); 37] = [
+static TRACES: [(&[&str], &str); 32] = [
     (
         &[],
         "Judge(JudgeRequest { file: None, workers: 1, nth: None, presentation: Report })",
@@ -41,10 +42,6 @@ static TRACES: [(&[&str], &str); 37] = [
         "Judge(JudgeRequest { file: Some(\"s\"), workers: 1, nth: Some(3), presentation: Explanation })",
     ),
     (
-        &["draw", "--nth=2"],
-        "Judge(JudgeRequest { file: None, workers: 1, nth: Some(2), presentation: Picture })",
-    ),
-    (
         &["check", "--nth", "2", "-", "c"],
         "Check(CheckRequest { texts: InputAndFile(\"c\"), nth: Some(2) })",
     ),
@@ -57,10 +54,6 @@ static TRACES: [(&[&str], &str); 37] = [
         "Judge(JudgeRequest { file: Some(\"-x\"), workers: 2, nth: None, presentation: Explanation })",
     ),
     (
-        &["draw"],
-        "Judge(JudgeRequest { file: None, workers: 1, nth: None, presentation: Picture })",
-    ),
-    (
         &["reduce"],
         "Reduce(ReduceRequest { file: None, nth: None })",
     ),
@@ -71,10 +64,6 @@ static TRACES: [(&[&str], &str); 37] = [
     (
         &["reduce", "--", "-x"],
         "Reduce(ReduceRequest { file: Some(\"-x\"), nth: None })",
-    ),
-    (
-        &["draw", "--workers", "3", "t"],
-        "Judge(JudgeRequest { file: Some(\"t\"), workers: 3, nth: None, presentation: Picture })",
     ),
     (
         &["batch"],
@@ -140,14 +129,6 @@ static TRACES: [(&[&str], &str); 37] = [
     (
         &["explain", "s", "--nth=2", "--decide", "--workers=3"],
         "Decide(DecideRequest { file: Some(\"s\"), workers: 3, nth: Some(2), effort: 100000, presentation: Explanation })",
-    ),
-    (
-        &["draw", "--decide", "-"],
-        "Decide(DecideRequest { file: None, workers: 1, nth: None, effort: 100000, presentation: Picture })",
-    ),
-    (
-        &["draw", "t", "--effort=0", "--decide", "--verbose"],
-        "Decide(DecideRequest { file: Some(\"t\"), workers: 1, nth: None, effort: 0, presentation: Picture })",
     ),
     (
         &["batch", "--decide", "--effort", "3", "--quiet", "a", "b"],
@@ -401,6 +382,7 @@ static KINDS: [(&[&str], &str); 9] = [
 #[test]
 fn accepted_arguments(rt: HostRuntime) -> Result<(), Fail> {
     expect_each(&rt, rt.alloc(), &TRACES)?;
+    expect_each(&rt, rt.alloc(), &PICTURES)?;
     expect_each(&rt, rt.alloc(), &PROGRAMS)?;
     expect_each(&rt, rt.alloc(), &KINDS)
 }

@@ -15,6 +15,10 @@ pub(super) const SEVERAL_INPUTS: &str =
 pub(super) const BOTH: &str =
     "error: the argument '--trace' cannot be used with '--explain'\n\nFor more information, try '--help'.\n";
 
+/// The refusal of a decision with the names of the field.
+const DECIDED_FIELD: &str =
+    "error: the argument '--edges field' cannot be used with '--decide'\n\nFor more information, try '--help'.\n";
+
 /// The refusal of more runs than one whose traces are not printed.
 pub(super) const TIMES_WITHOUT_TRACE: &str =
     "error: the argument '--times <N>' needs '--trace' where N is more than 1\n\nFor more information, try '--help'.\n";
@@ -24,7 +28,7 @@ pub(super) const UNKNOWN: &str =
     "error: unrecognized subcommand 'seek'\n\nUsage: tsobench [COMMAND]\n\nFor more information, try '--help'.\n";
 
 /// Arguments about traces and logs, and the text of their refusal.
-static TRACES: [(&[&str], &str); 38] = [
+static TRACES: [(&[&str], &str); 43] = [
     (&["batch", "-", "-"], SEVERAL_INPUTS),
     (&["batch", "-", "a", "--quiet", "b", "-"], SEVERAL_INPUTS),
     (
@@ -50,6 +54,20 @@ static TRACES: [(&[&str], &str); 38] = [
     (
         &["draw", "--nth=18446744073709551616"],
         "error: invalid value '18446744073709551616' for '--nth <K>': number too large to fit in target type\n\nFor more information, try '--help'.\n",
+    ),
+    (&["draw", "--edges", "field", "--decide"], DECIDED_FIELD),
+    (&["draw", "--decide", "t", "--edges=field"], DECIDED_FIELD),
+    (
+        &["draw", "--edges", "herd", "t"],
+        "error: invalid value 'herd' for '--edges <NAMES>'\n  [possible values: rules, field]\n\nFor more information, try '--help'.\n",
+    ),
+    (
+        &["draw", "--edges=field", "--edges=field"],
+        "error: the argument '--edges <NAMES>' cannot be used multiple times\n\nUsage: tsobench draw [OPTIONS] [FILE]\n\nFor more information, try '--help'.\n",
+    ),
+    (
+        &["explain", "--edges", "field"],
+        "error: unexpected argument '--edges' found\n\n  tip: to pass '--edges' as a value, use '-- --edges'\n\nUsage: tsobench explain [OPTIONS] [FILE]\n\nFor more information, try '--help'.\n",
     ),
     (
         &["check", "--nth", "1", "--nth", "1", "t", "c"],

@@ -1,8 +1,6 @@
 -- The texts of a batch as code has them.
 use Rattle.std.specs.Prelude.{◌≤◌, ℕ, List, Option, count_by, is_none, map, option_map}
 use Rattle.std.specs.Borrow.{Bor}
-use Rattle.trace_batches.specs.Batches.{BatchText}
-use Rattle.request_serving.specs.OpenedFiles.{text_bytes}
 
 -- the files of texts, none for one on standard input
 abbrev pub files_in : List (Option (Bor (List ℕ))) → List (Option (List ℕ))
@@ -11,7 +9,3 @@ files_in texts = map (option_map (λ f. f.now)) texts
 -- standard input is at most one of them
 abbrev pub reads_one : List (Option (List ℕ)) → Type 0
 reads_one files = count_by is_none files ≤ 1
-
--- the text of this name in a file, or on standard input
-abbrev pub text_named : Option (List ℕ) → Option (List ℕ) → Option (List ℕ) → (List ℕ → Option (List ℕ)) → BatchText
-text_named name file input files = record { name = name; bytes = text_bytes file input files }

@@ -1,16 +1,17 @@
 //! `batch`: traces that stand one after the other, judged or decided, with a line for each, or the texts of those that are violations.
 ghost use Rattle.std.specs.Prelude.{◌≡◌, ◌<◌, ◌≤◌, [], Bool, List, Option, ℕ, None, false, true, filter_map, get_or, is_some, length, option_to_list, IfOk, IfErr, IfSome, OnErr, OnOk};
 ghost use Rattle.std.specs.Borrow.{Bor};
-ghost use Rattle.std.specs.Io.KnownBytes.{Consumes};
+ghost use Rattle.std.specs.Io.KnownBytes.{Appends, Consumes};
 ghost use Rattle.std.specs.List.{list_all};
-ghost use Rattle.trace_batches.specs.Batches.{HasWritten, IsBatchFault, Judges, LeavesBatch, LeavesText, WritesBatch};
-ghost use Rattle.trace_batches.specs.declared.batches.BatchPrinting.{BatchPrinting};
-ghost use Rattle.request_serving.specs.Batches.{are_several, asked_format, asked_method, asked_printing, texts_of_batch, told_name};
+ghost use Rattle.trace_batches.specs.Batches.{BatchText, HasJudged, HasWritten, IsBatchFault, Judges, LeavesBatch, LeavesText, WritesBatch, head_text};
+ghost use Rattle.trace_judging.specs.Streams.{AppendsPrefix};
+ghost use Rattle.request_serving.specs.Batches.{AreTextsOfBatch, IsNamedText, are_several, asked_format, asked_method, asked_printing, told_name};
 ghost use Rattle.request_serving.specs.OpenedFiles.{OpensFirst, OpensNext, name_in};
-ghost use Rattle.request_serving.specs.Internal.Batching.{files_in, reads_one, text_named};
+ghost use Rattle.request_serving.specs.Internal.Batching.{files_in, reads_one};
 
 use crate::files::{Surroundings, open};
 use command_line::{BatchFormat as AskedFormat, BatchPrinting as AskedPrinting, BatchRequest};
+use std::alloc::Global;
 use std::io::{Read, Write};
 use std::sync::Wait;
 use std::thread::Threads;
@@ -30,7 +31,7 @@ struct NamedText<'a> {
 }
 
 /// Judges the traces in files, one file after the other, each opened when its turn comes; one of them may be what the reader
-/// has.
+/// has. A file that can't be opened is left out, and told.
 pub(crate) fn batch_named<
     H: Threads + Wait + Sync + AllocGlobal,
     O: Surroundings,
@@ -47,47 +48,64 @@ pub(crate) fn batch_named<
 ) -> Result<BatchVerdict, Fault>
     requires workers { 1 ≤ request.now.workers }
     requires input { reads_one (files_in request.now.texts.items) }
-    ensures whole { let texts = texts_of_batch (files_in request.now.texts.items) (R.remaining reader.old) (O.bytes files.old) in IfOk result (WritesBatch (asked_printing request.now.printing) texts (W.contents writer.old) (W.contents writer.new) (E.contents errors.old) (E.contents errors.new)) }
-    ensures left { let texts = texts_of_batch (files_in request.now.texts.items) (R.remaining reader.old) (O.bytes files.old) in OnErr result (LeavesBatch (asked_printing request.now.printing) texts (W.contents writer.old) (W.contents writer.new) (E.contents errors.old) (E.contents errors.new)) }
+    ensures whole { let are_texts = AreTextsOfBatch (files_in request.now.texts.items) (R.remaining reader.old) (O.bytes files.old) in IfOk result (λ verdict. (texts : List BatchText) × are_texts texts × WritesBatch (asked_printing request.now.printing) texts (W.contents writer.old) (W.contents writer.new) (E.contents errors.old) (E.contents errors.new) verdict) }
+    ensures left { let are_texts = AreTextsOfBatch (files_in request.now.texts.items) (R.remaining reader.old) (O.bytes files.old) in OnErr result ((texts : List BatchText) × are_texts texts × LeavesBatch (asked_printing request.now.printing) texts (W.contents writer.old) (W.contents writer.new) (E.contents errors.old) (E.contents errors.new)) }
     ensures fault { IfErr result IsBatchFault }
     ensures first { OpensFirst (O.opened files.old) (O.opened files.new) (filter_map (λ file. file) (files_in request.now.texts.items)) }
     ensures opened { IfOk result (λ _. OpensNext (O.opened files.old) (O.opened files.new) (filter_map (λ file. file) (files_in request.now.texts.items))) }
     ensures unread { list_all is_some (files_in request.now.texts.items) ≡ true → reader.new ≡ reader.old }
     ensures taken { list_all is_some (files_in request.now.texts.items) ≡ false → IfOk result (λ _. IfSome (R.remaining reader.old) (λ all. Consumes (R.remaining reader.old) (R.remaining reader.new) all)) }
 {
+    let batch = judge_each(rt, request, files, reader, writer, errors)?;
+    batch.end(writer, errors)
+}
+
+/// Begins the batch, and judges its texts, one after the other.
+fn judge_each<H: Threads + Wait + Sync + AllocGlobal, O: Surroundings, R: Read, W: Write, E: Write>(
+    rt: &H,
+    request: &BatchRequest<'_>,
+    files: &mut O,
+    reader: &mut R,
+    writer: &mut W,
+    errors: &mut E,
+) -> Result<Batch, Fault>
+    requires workers { 1 ≤ request.now.workers }
+    requires input { reads_one (files_in request.now.texts.items) }
+    ensures judged { let are_texts = AreTextsOfBatch (files_in request.now.texts.items) (R.remaining reader.old) (O.bytes files.old) in IfOk result (λ batch. (texts : List BatchText) × are_texts texts × HasWritten batch (asked_printing request.now.printing) texts (W.contents writer.old) (W.contents writer.new) (E.contents errors.old) (E.contents errors.new)) }
+    ensures left { let are_texts = AreTextsOfBatch (files_in request.now.texts.items) (R.remaining reader.old) (O.bytes files.old) in OnErr result ((texts : List BatchText) × are_texts texts × LeavesBatch (asked_printing request.now.printing) texts (W.contents writer.old) (W.contents writer.new) (E.contents errors.old) (E.contents errors.new)) }
+    ensures fault { IfErr result IsBatchFault }
+    ensures first { OpensFirst (O.opened files.old) (O.opened files.new) (filter_map (λ file. file) (files_in request.now.texts.items)) }
+    ensures opened { OnOk result (OpensNext (O.opened files.old) (O.opened files.new) (filter_map (λ file. file) (files_in request.now.texts.items))) }
+    ensures unread { list_all is_some (files_in request.now.texts.items) ≡ true → reader.new ≡ reader.old }
+    ensures taken { list_all is_some (files_in request.now.texts.items) ≡ false → OnOk result (IfSome (R.remaining reader.old) (λ all. Consumes (R.remaining reader.old) (R.remaining reader.new) all)) }
+{
+    let mut batch = begin(rt.alloc(), request, writer)?;
+    let texts = request.texts.as_slice();
+    let several = are_several(texts);
+    for i in 0..texts.len() {
+        let text = text_at(several, texts, i);
+        text.judge(rt, &mut batch, files, reader, writer, errors)?;
+    }
+    Ok(batch)
+}
+
+/// Begins the batch that was asked for.
+fn begin<W: Write>(
+    alloc: Global,
+    request: &BatchRequest<'_>,
+    writer: &mut W,
+) -> Result<Batch, Fault>
+    requires { 1 ≤ request.now.workers }
+    ensures begun { IfOk result (λ batch. HasJudged batch (asked_printing request.now.printing) []) }
+    ensures whole { OnOk result (Appends (W.contents writer.old) (W.contents writer.new) (head_text (asked_printing request.now.printing))) }
+    ensures prefix { AppendsPrefix (W.contents writer.old) (W.contents writer.new) (head_text (asked_printing request.now.printing)) }
+    ensures fault { IfErr result IsBatchFault }
+{
     let options = BatchOptions {
         workers: request.workers,
         printing: asked_printing(request.printing),
     };
-    let mut batch = Batch::begin(rt.alloc(), options, writer)?;
-    judge_each(rt, &mut batch, &request.texts, files, reader, writer)?;
-    batch.end(writer, errors)
-}
-
-/// Judges the texts of a batch, one after the other.
-fn judge_each<H: Threads + Wait + Sync, O: Surroundings, R: Read, W: Write>(
-    rt: &H,
-    batch: &mut Batch,
-    texts: &[Option<&str>],
-    files: &mut O,
-    reader: &mut R,
-    writer: &mut W,
-) -> Result<(), Fault>
-    requires { reads_one (files_in texts.now) }
-    ensures judged { OnOk result ((printing : BatchPrinting) (old : Option (List ℕ)) → HasWritten batch.old printing [] old (W.contents writer.old) → HasWritten batch.new printing (texts_of_batch (files_in texts.now) (R.remaining reader.old) (O.bytes files.old)) old (W.contents writer.new)) }
-    ensures left { OnErr result ((printing : BatchPrinting) (old before : Option (List ℕ)) → HasWritten batch.old printing [] old (W.contents writer.old) → LeavesBatch printing (texts_of_batch (files_in texts.now) (R.remaining reader.old) (O.bytes files.old)) old (W.contents writer.new) before before) }
-    ensures fault { IfErr result IsBatchFault }
-    ensures first { OpensFirst (O.opened files.old) (O.opened files.new) (filter_map (λ file. file) (files_in texts.now)) }
-    ensures opened { OnOk result (OpensNext (O.opened files.old) (O.opened files.new) (filter_map (λ file. file) (files_in texts.now))) }
-    ensures unread { list_all is_some (files_in texts.now) ≡ true → reader.new ≡ reader.old }
-    ensures taken { list_all is_some (files_in texts.now) ≡ false → OnOk result (IfSome (R.remaining reader.old) (λ all. Consumes (R.remaining reader.old) (R.remaining reader.new) all)) }
-{
-    let several = are_several(texts);
-    for i in 0..texts.len() {
-        let text = text_at(several, texts, i);
-        judge_text(rt, batch, text, files, reader, writer)?;
-    }
-    Ok(())
+    Batch::begin(alloc, options, writer)
 }
 
 /// The text at a place, with the name that its lines have.
@@ -119,29 +137,32 @@ fn told_name(several: bool, file: Option<&str>) -> Option<&str>
     }
 }
 
-/// Judges one text of a batch.
-fn judge_text<H: Threads + Wait + Sync, O: Surroundings, R: Read, W: Write>(
-    rt: &H,
-    batch: &mut Batch,
-    text: NamedText<'_>,
-    files: &mut O,
-    reader: &mut R,
-    writer: &mut W,
-) -> Result<(), Fault>
-    ensures judged { OnOk result (Judges (text_named (name_in text.entry.name) (name_in text.entry.file) (R.remaining reader.old) (O.bytes files.old)) batch.old batch.new (W.contents writer.old) (W.contents writer.new)) }
-    ensures left { OnErr result (LeavesText (text_named (name_in text.entry.name) (name_in text.entry.file) (R.remaining reader.old) (O.bytes files.old)) batch.old (W.contents writer.old) (W.contents writer.new)) }
-    ensures fault { IfErr result IsBatchFault }
-    ensures opened { OpensNext (O.opened files.old) (O.opened files.new) (option_to_list (name_in text.entry.file)) }
-    ensures same { O.bytes files.new ≡ O.bytes files.old }
-    ensures unread { IfSome text.entry.file (λ _. reader.new ≡ reader.old) }
-    ensures taken { text.entry.file ≡ None → OnOk result (IfSome (R.remaining reader.old) (λ all. Consumes (R.remaining reader.old) (R.remaining reader.new) all)) }
-{
-    let meter = files.meter("traces", None);
-    match text.file {
-        None => batch.judge(rt, &meter, text.name, reader, writer),
-        Some(name) => {
-            let mut file = open(files, name)?;
-            batch.judge(rt, &meter, text.name, &mut file, writer)
+impl NamedText<'_> {
+    /// Judges it as the next text of a batch, or tells that its file can't be opened.
+    fn judge<H: Threads + Wait + Sync, O: Surroundings, R: Read, W: Write, E: Write>(
+        self,
+        rt: &H,
+        batch: &mut Batch,
+        files: &mut O,
+        reader: &mut R,
+        writer: &mut W,
+        errors: &mut E,
+    ) -> Result<(), Fault>
+        ensures judged { OnOk result ((text : BatchText) × IsNamedText (name_in self.entry.name) (R.remaining reader.old) (O.bytes files.old) (name_in self.entry.file) text × Judges text batch.old batch.new (W.contents writer.old) (W.contents writer.new) (E.contents errors.old) (E.contents errors.new)) }
+        ensures left { OnErr result ((text : BatchText) × IsNamedText (name_in self.entry.name) (R.remaining reader.old) (O.bytes files.old) (name_in self.entry.file) text × LeavesText text batch.old (W.contents writer.old) (W.contents writer.new) (E.contents errors.old) (E.contents errors.new)) }
+        ensures fault { IfErr result IsBatchFault }
+        ensures opened { OpensNext (O.opened files.old) (O.opened files.new) (option_to_list (name_in self.entry.file)) }
+        ensures same { O.bytes files.new ≡ O.bytes files.old }
+        ensures unread { IfSome self.entry.file (λ _. reader.new ≡ reader.old) }
+        ensures taken { self.entry.file ≡ None → OnOk result (IfSome (R.remaining reader.old) (λ all. Consumes (R.remaining reader.old) (R.remaining reader.new) all)) }
+    {
+        let meter = files.meter("traces", None);
+        match self.file {
+            None => batch.judge(rt, &meter, self.name, reader, writer, errors),
+            Some(name) => match open(files, name) {
+                Ok(mut file) => batch.judge(rt, &meter, self.name, &mut file, writer, errors),
+                Err(_) => batch.leave_out(self.name, writer, errors),
+            },
         }
     }
 }

@@ -96,5 +96,8 @@ fn present<H: Threads + Wait + AllocGlobal, R: Read, W: Write>(
         Presentation::Picture => {
             decide_input(rt, alloc, reader, writer, limits, &AsDecisionPicture)
         }
+        Presentation::FieldPicture => {
+            decide_input(rt, alloc, reader, writer, limits, &AsDecisionPicture)
+        }
     }
 }

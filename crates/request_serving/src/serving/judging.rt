@@ -21,7 +21,7 @@ use std::thread::Threads;
 use trace_batches::read_piece;
 use trace_explanation::AsExplanation;
 use trace_judging::{Fault, Verdict, judge, judge_with};
-use trace_pictures::AsPicture;
+use trace_pictures::{AsFieldPicture, AsPicture};
 
 /// Judges the trace in a file, or else in what the reader has, and presents the verdict.
 pub(crate) fn judge_named<
@@ -94,6 +94,9 @@ fn present<H: Threads + Wait + Sync + AllocGlobal, R: Read, W: Write>(
         }
         Presentation::Picture => {
             judge_with(rt, alloc, reader, writer, request.workers, &AsPicture)
+        }
+        Presentation::FieldPicture => {
+            judge_with(rt, alloc, reader, writer, request.workers, &AsFieldPicture)
         }
     }
 }

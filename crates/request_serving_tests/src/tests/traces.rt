@@ -22,11 +22,21 @@ const BATCHED_ALONE: &str = "trace 1 VIOLATION\ntraces 1 violations 1 refused 0\
 
 const BATCHED_FIRST: &str = "trace: trace 1 VIOLATION\n";
 
+/// What it prints of the trace, of a file that can't be opened and of a text that is none.
+const BATCHED_OPENED: &str =
+    "trace: trace 1 VIOLATION\nother: FAULT Read\nlog: trace 1 REFUSED BadHeader line 1\ntraces 2 violations 1 refused 1\n";
+
+/// The violations of the trace, twice, and the notes beside them where another file between can't be opened.
+const VIOLATIONS: &str = "tso trace 1\nproc\nld 1 9\nend\ntso trace 1\nproc\nld 1 9\nend\n";
+
+const NOTES: &str =
+    "trace: kept 1 trace 1\nother: FAULT Read\ntrace: kept 2 trace 1\ntraces 2 violations 2 refused 0\nFAULT Read\n";
+
 /// The refusal of two files to judge.
 const SECOND_FILE: &str =
     "error: unexpected argument 'b' found\n\nUsage: tsobench judge [OPTIONS] [FILE]\n\nFor more information, try '--help'.\n";
 
-pub(super) static CASES: [Case; 31] = [
+pub(super) static CASES: [Case; 33] = [
     // store_forwarded, missing_end and unwritten_load on standard input
     (
         "",
@@ -102,7 +112,7 @@ pub(super) static CASES: [Case; 31] = [
     ("reduce --nth 1 trace", None, "trace;", 3, REDUCED, STANDS),
     ("reduce --nth 2 trace", None, "trace;", 2, FEWER, ""),
     ("reduce --nth 2", None, "", 4, "", READ),
-    // Each file of a batch is opened when its turn comes: none after one that can't be, or after standard input that fails.
+    // Each file of a batch is opened when its turn comes, after one that can't be too, but not after standard input that fails.
     ("batch trace", None, "trace;", 3, BATCHED_ALONE, ""),
     (
         "batch trace log trace",
@@ -115,10 +125,26 @@ pub(super) static CASES: [Case; 31] = [
     (
         "batch trace other log",
         None,
-        "trace;other;",
+        "trace;other;log;",
         4,
-        BATCHED_FIRST,
+        BATCHED_OPENED,
         READ,
+    ),
+    (
+        "batch other",
+        None,
+        "other;",
+        4,
+        "FAULT Read\ntraces 0 violations 0 refused 0\n",
+        READ,
+    ),
+    (
+        "batch --violations trace other trace",
+        None,
+        "trace;other;trace;",
+        4,
+        VIOLATIONS,
+        NOTES,
     ),
     ("batch trace - log", None, "trace;", 4, BATCHED_FIRST, READ),
     // so many traces have to be judged; a violation is worse

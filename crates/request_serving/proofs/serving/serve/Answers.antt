@@ -5,7 +5,7 @@ use Rattle.request_serving.specs.Endings.{IsPresented, Outputs, outputs}
 use Rattle.request_serving.specs.OpenedFiles.{name_in, text_bytes}
 use Rattle.request_serving.specs.Replaying.{IsReplayText}
 use Rattle.request_serving.specs.Statuses.{status_of}
-use Rattle.request_serving.specs.Batches.{asked_printing, status_of_batch, texts_of_batch}
+use Rattle.request_serving.specs.Batches.{AreTextsOfBatch, asked_printing, status_of_batch}
 use Rattle.request_serving.specs.Internal.Batching.{files_in}
 use Rattle.request_serving.specs.Logs.{options_of}
 use Rattle.request_serving.proofs.BatchingFacts.{ends_batched, read_files, unread_files}
@@ -78,9 +78,9 @@ pub returns-in-Batch-clause-ends : goal.returns-in-Batch-clause-ends
 returns-in-Batch-clause-ends g c =
     let o : Outputs = outputs (g.W.Write.contents c.args.writer.now) (g.W.Write.contents c.batch_named-judged.new.writer) (g.E.Write.contents c.args.errors.now) (g.E.Write.contents c.end_batch.new.errors) in
     let request = c.in-Batch.request in
-    let texts = texts_of_batch (files_in request.texts.items) (g.R.Read.remaining c.args.reader.now) (g.O.Surroundings.bytes c.args.files.now) in
+    let are_texts = AreTextsOfBatch (files_in request.texts.items) (g.R.Read.remaining c.args.reader.now) (g.O.Surroundings.bytes c.args.files.now) in
     let judged = c.batch_named-judged.ensures in
-    rw c.in-Batch.is (ends_batched (asked_printing request.printing) texts (g.E.Write.contents c.batch_named-judged.new.errors) o c.batch_named-judged.result c.end_batch.result judged.whole judged.left judged.fault c.end_batch.ensures.verdict c.end_batch.ensures.fault)
+    rw c.in-Batch.is (ends_batched (asked_printing request.printing) are_texts (g.E.Write.contents c.batch_named-judged.new.errors) o c.batch_named-judged.result c.end_batch.result judged.whole judged.left judged.fault c.end_batch.ensures.verdict c.end_batch.ensures.fault)
 
 pub returns-in-Batch-clause-first : goal.returns-in-Batch-clause-first
 returns-in-Batch-clause-first g c = rw c.in-Batch.is c.batch_named-judged.ensures.first

@@ -1,6 +1,6 @@
 use Rattle.clap.specs.Words.{found_of, rows_of}
 use Rattle.command_line.specs.Requests.{HasDrainTurns, HasLogRanges, HasOneInput, HasUnitRanges, HasWorkers}
-use Rattle.command_line.proofs.FoundLemmas.{of_batch, of_log, of_replay, of_request, of_run}
+use Rattle.command_line.proofs.FoundLemmas.{of_batch, of_draw, of_log, of_replay, of_request, of_run}
 use Rattle.command_line.proofs.subcommands.Subcommand.request.Goals as goal
 
 pub returns-in-Log-clause-workers : goal.returns-in-Log-clause-workers
@@ -85,3 +85,26 @@ returns-in-Check-clause-asked c = rw c.in-Check.is c.check.ensures
 
 pub returns-in-Verify-clause-asked : goal.returns-in-Verify-clause-asked
 returns-in-Verify-clause-asked c = rw c.in-Verify.is c.verify.ensures
+
+pub returns-in-Draw-clause-asked : goal.returns-in-Draw-clause-asked
+returns-in-Draw-clause-asked c = rw c.in-Draw.is c.draw.ensures
+
+pub returns-in-Draw-clause-workers : goal.returns-in-Draw-clause-workers
+returns-in-Draw-clause-workers c =
+    of_request HasWorkers _ (of_draw HasWorkers tt (λ presentation file workers nth some most. (some, most)) (λ presentation file workers nth effort some most. (some, most)) (rows_of (found_of c.args.matches.now))) _ c.draw.ensures
+
+pub returns-in-Draw-clause-unit : goal.returns-in-Draw-clause-unit
+returns-in-Draw-clause-unit c =
+    of_request HasUnitRanges _ (of_draw HasUnitRanges tt (λ presentation file workers nth some most. tt) (λ presentation file workers nth effort some most. tt) (rows_of (found_of c.args.matches.now))) _ c.draw.ensures
+
+pub returns-in-Draw-clause-turns : goal.returns-in-Draw-clause-turns
+returns-in-Draw-clause-turns c =
+    of_request HasDrainTurns _ (of_draw HasDrainTurns tt (λ presentation file workers nth some most. tt) (λ presentation file workers nth effort some most. tt) (rows_of (found_of c.args.matches.now))) _ c.draw.ensures
+
+pub returns-in-Draw-clause-log : goal.returns-in-Draw-clause-log
+returns-in-Draw-clause-log c =
+    of_request HasLogRanges _ (of_draw HasLogRanges tt (λ presentation file workers nth some most. tt) (λ presentation file workers nth effort some most. tt) (rows_of (found_of c.args.matches.now))) _ c.draw.ensures
+
+pub returns-in-Draw-clause-input : goal.returns-in-Draw-clause-input
+returns-in-Draw-clause-input c =
+    of_request HasOneInput _ (of_draw HasOneInput tt (λ presentation file workers nth some most. tt) (λ presentation file workers nth effort some most. tt) (rows_of (found_of c.args.matches.now))) _ c.draw.ensures

@@ -17,3 +17,9 @@ returns-in-Picture-clause-decided g c = rw c.in-Picture.is c.decide_input-in-Pic
 
 pub returns-in-Picture-clause-fault : goal.returns-in-Picture-clause-fault
 returns-in-Picture-clause-fault g c = rw c.in-Picture.is c.decide_input-in-Picture.ensures.fault
+
+pub returns-in-FieldPicture-clause-decided : goal.returns-in-FieldPicture-clause-decided
+returns-in-FieldPicture-clause-decided g c = rw c.in-FieldPicture.is c.decide_input-in-FieldPicture.ensures.decided
+
+pub returns-in-FieldPicture-clause-fault : goal.returns-in-FieldPicture-clause-fault
+returns-in-FieldPicture-clause-fault g c = rw c.in-FieldPicture.is c.decide_input-in-FieldPicture.ensures.fault

@@ -17,3 +17,9 @@ returns-in-Picture-clause-presented g c = rw c.in-Picture.is c.judge_with-in-Pic
 
 pub returns-in-Picture-clause-fault : goal.returns-in-Picture-clause-fault
 returns-in-Picture-clause-fault g c = rw c.in-Picture.is c.judge_with-in-Picture.ensures.fault
+
+pub returns-in-FieldPicture-clause-presented : goal.returns-in-FieldPicture-clause-presented
+returns-in-FieldPicture-clause-presented g c = rw c.in-FieldPicture.is c.judge_with-in-FieldPicture.ensures.said
+
+pub returns-in-FieldPicture-clause-fault : goal.returns-in-FieldPicture-clause-fault
+returns-in-FieldPicture-clause-fault g c = rw c.in-FieldPicture.is c.judge_with-in-FieldPicture.ensures.fault
