@@ -1,11 +1,27 @@
 //! What the program is for and the text of its help, and the texts of refusals.
 
-/// What the program is for.
-pub(crate) const ABOUT: &str =
-    "Judges traces of multiprocessor memory operations against the SPARC memory models TSO and PSO";
+/// What help says of a command. Its texts stand apart from what is proved of the command.
+#[derive(Clone, Copy)]
+pub(crate) struct Help {
+    /// What it does, in a line.
+    pub(crate) about: &'static str,
+    /// The text after the list of its parameters.
+    pub(crate) text: &'static str,
+}
+
+/// What help says of the program.
+pub(crate) fn of_program() -> &'static Help {
+    &PROGRAM
+}
 
 /// Of the program.
-pub(crate) const PROGRAM: &str = "\
+static PROGRAM: Help = Help {
+    about: "Judges traces of multiprocessor memory operations against the SPARC memory models TSO and PSO",
+    text: TEXT,
+};
+
+/// After its list of subcommands.
+const TEXT: &str = "\
 Without arguments it judges the trace on standard input, with one worker. In
 place of a file - stands for standard input; a file of that name is ./-.
 

@@ -30,7 +30,7 @@ pub const MAX_LOG_EFFORT: usize = 1_000_000;
 pub const MAX_PERCENT: usize = 100;
 
 /// A kind of memory unit.
-#[derive(Clone, Copy, Debug, PartialEq, Eq)]
+#[derive(Clone, Copy)]
 pub enum UnitKind {
     /// `serial`: lawful, of TSO; each store is drained within its call.
     Serial,
@@ -114,7 +114,7 @@ pub(crate) fn option_names() -> OptionNames<'static>
 }
 
 /// Which memory unit to make.
-#[derive(Clone, Copy, Debug, PartialEq, Eq)]
+#[derive(Clone, Copy)]
 pub struct UnitOptions {
     /// Its kind.
     pub kind: UnitKind,
@@ -125,7 +125,7 @@ pub struct UnitOptions {
 }
 
 /// In which form the verdict or the decision on a trace is presented.
-#[derive(Clone, Copy, Debug, PartialEq, Eq)]
+#[derive(Clone, Copy)]
 pub enum Presentation {
     /// The report, with the certificate of a violation; or the decision, with its evidence.
     Report,
@@ -152,7 +152,7 @@ pub(crate) fn picture_named(name: &str) -> Option<Presentation>
 }
 
 /// What is printed of a run or a replay.
-#[derive(Clone, Copy, Debug, PartialEq, Eq)]
+#[derive(Clone, Copy)]
 pub enum Printing {
     /// The report of the recorded trace, and the account of the unit's steps.
     Report,
@@ -175,7 +175,7 @@ impl Printing {
 }
 
 /// How a program is run, and what is printed of it.
-#[derive(Clone, Copy, Debug, PartialEq, Eq)]
+#[derive(Clone, Copy)]
 pub struct RunOptions {
     /// The unit on which it is run.
     pub unit: UnitOptions,
@@ -188,7 +188,7 @@ pub struct RunOptions {
 }
 
 /// How the lines of a batch are written.
-#[derive(Clone, Copy, Debug, PartialEq, Eq)]
+#[derive(Clone, Copy)]
 pub enum BatchFormat {
     /// `words`: as `trace 1 VIOLATION`.
     Words,
@@ -214,7 +214,7 @@ pub(crate) fn format_named(name: &str) -> Option<BatchFormat>
 }
 
 /// What is said and printed of the traces of a batch.
-#[derive(Clone, Copy, Debug, PartialEq, Eq)]
+#[derive(Clone, Copy)]
 pub struct BatchPrinting {
     /// How lines are written.
     pub format: BatchFormat,
@@ -229,7 +229,7 @@ pub struct BatchPrinting {
 }
 
 /// In which form the violations of a log are shown.
-#[derive(Clone, Copy, Debug, PartialEq, Eq)]
+#[derive(Clone, Copy)]
 pub enum LogForm {
     /// A report: the lines of each violation.
     Lines,
@@ -240,7 +240,7 @@ pub enum LogForm {
 }
 
 /// How far a log is searched, how many of its violations are shown, and in which form.
-#[derive(Clone, Copy, Debug, PartialEq, Eq)]
+#[derive(Clone, Copy)]
 pub struct LogOptions {
     /// How many are shown at most, 1 to 1,000,000.
     pub most: usize,
@@ -255,7 +255,7 @@ pub struct LogOptions {
 }
 
 /// The shape of a drawn program, as numbers that no limit was compared with.
-#[derive(Clone, Copy, Debug, PartialEq, Eq)]
+#[derive(Clone, Copy)]
 pub struct ShapeNumbers {
     /// The number of processors.
     pub processors: u64,
@@ -266,7 +266,7 @@ pub struct ShapeNumbers {
 }
 
 /// What is drawn from a seed, and which of it is printed.
-#[derive(Clone, Copy, Debug, PartialEq, Eq)]
+#[derive(Clone, Copy)]
 pub struct MakeOptions {
     /// The memory model of the program.
     pub order: Order,
@@ -279,7 +279,7 @@ pub struct MakeOptions {
 }
 
 /// Which programs a campaign draws, and how each is run.
-#[derive(Clone, Copy, Debug, PartialEq, Eq)]
+#[derive(Clone, Copy)]
 pub struct CampaignOptions {
     /// The unit on which each is run.
     pub unit: UnitOptions,

@@ -6,6 +6,7 @@ ghost use Rattle.command_line.specs.Parameters.{offered_app, offered_rule, parse
 ghost use Rattle.command_line.specs.Commands.{memory_of};
 ghost use Rattle.command_line.specs.Internal.Computed.{parameter_of, values_of};
 
+use crate::help::Help;
 use crate::options::OptionNames;
 use clap::builder::ValueParser;
 use clap::{Arg, ArgAction, Command};
@@ -73,32 +74,29 @@ pub(crate) enum Parameter {
     },
 }
 
-/// What is told of a subcommand.
+/// How a subcommand is written.
 #[derive(Clone, Copy)]
 pub(crate) struct Description {
     /// Its name, and the option that asks for its help.
     pub(crate) help_option: [&'static str; 2],
-    /// What it does, in a line.
-    pub(crate) about: &'static str,
-    /// The text after the list of its parameters.
-    pub(crate) help: &'static str,
     /// What may stand after its name.
     pub(crate) parameters: &'static [Parameter],
 }
 
-/// The subcommand of this name and this description.
+/// The subcommand of this name, this description and this help.
 pub(crate) fn subcommand_of<'a>(
     alloc: Global,
     names: OptionNames<'a>,
     name: &'static str,
     description: &'static Description,
+    help: &'static Help,
 ) -> Result<Command<'a>, AllocError>
     ensures app { IfOk result (λ command. app_of command ≡ offered_app (memory_of names.entry) name.now (map parameter_of description.now.parameters.now)) }
     ensures local { IfOk result (λ command. (fields_of command).has_globals ≡ false) }
 {
     let mut command = Command::new(alloc, name)
-        .about(description.about)
-        .after_help(description.help);
+        .about(help.about)
+        .after_help(help.text);
     for parameter in description.parameters {
         command = command.arg(argument(alloc, names, *parameter))?;
     }

@@ -19,7 +19,7 @@ use clap::{ArgMatches, Error};
 use std::alloc::{AllocError, Global};
 
 /// Which program to run with a thread per processor, and how.
-#[derive(Clone, Copy, Debug, PartialEq, Eq)]
+#[derive(Clone, Copy)]
 pub struct RunRequest<'a> {
     /// The unit, the number of workers, and what is printed.
     pub options: RunOptions,
@@ -32,7 +32,7 @@ pub struct RunRequest<'a> {
 }
 
 /// Which program to run more than once with a thread per processor, and how; the trace of each run is printed.
-#[derive(Clone, Copy, Debug, PartialEq, Eq)]
+#[derive(Clone, Copy)]
 pub struct RunTimesRequest<'a> {
     /// The unit on which it is run.
     pub unit: UnitOptions,
@@ -47,7 +47,7 @@ pub struct RunTimesRequest<'a> {
 }
 
 /// Of which program the outcomes are listed, and how.
-#[derive(Clone, Copy, Debug, PartialEq, Eq)]
+#[derive(Clone, Copy)]
 pub struct OutcomesRequest<'a> {
     /// The file of the program; standard input where none is named.
     pub program: Option<&'a str>,
@@ -58,7 +58,7 @@ pub struct OutcomesRequest<'a> {
 }
 
 /// The outcomes of which program are counted in which stream of traces.
-#[derive(Clone, Copy, Debug)]
+#[derive(Clone, Copy)]
 pub struct SeenRequest<'a> {
     /// The program, and the stream.
     pub texts: TextPair<'a>,
@@ -67,7 +67,7 @@ pub struct SeenRequest<'a> {
 }
 
 /// Where two texts are read from. Standard input can be read once, so it has at most one of them.
-#[derive(Clone, Copy, Debug)]
+#[derive(Clone, Copy)]
 pub enum TextPair<'a> {
     /// Each is in the file of its name.
     Files(&'a str, &'a str),
@@ -78,7 +78,7 @@ pub enum TextPair<'a> {
 }
 
 /// Which trace is judged, and how the verdict is presented.
-#[derive(Clone, Copy, Debug)]
+#[derive(Clone, Copy)]
 pub struct JudgeRequest<'a> {
     /// The file with the trace; standard input where none is named.
     pub file: Option<&'a str>,
@@ -91,7 +91,7 @@ pub struct JudgeRequest<'a> {
 }
 
 /// Of which trace it is decided whether it has an order that meets the axioms of its memory model, and with what effort.
-#[derive(Clone, Copy, Debug)]
+#[derive(Clone, Copy)]
 pub struct DecideRequest<'a> {
     /// The file with the trace; standard input where none is named.
     pub file: Option<&'a str>,
@@ -106,7 +106,7 @@ pub struct DecideRequest<'a> {
 }
 
 /// Which trace is reduced.
-#[derive(Clone, Copy, Debug)]
+#[derive(Clone, Copy)]
 pub struct ReduceRequest<'a> {
     /// The file with the trace; standard input where none is named.
     pub file: Option<&'a str>,
@@ -115,7 +115,7 @@ pub struct ReduceRequest<'a> {
 }
 
 /// Which certificate, or which evidence, is checked against which trace.
-#[derive(Clone, Copy, Debug)]
+#[derive(Clone, Copy)]
 pub struct CheckRequest<'a> {
     /// The trace, and the certificate or the evidence.
     pub texts: TextPair<'a>,
@@ -124,7 +124,7 @@ pub struct CheckRequest<'a> {
 }
 
 /// Which traces are judged or decided on, one after the other.
-#[derive(Debug, Drop)]
+#[derive(Drop)]
 pub struct BatchRequest<'a> {
     /// The texts with the traces, one or more: each in a file, or on standard input where none is named, as at most one is.
     pub texts: Vec<Option<&'a str>>,
@@ -135,7 +135,7 @@ pub struct BatchRequest<'a> {
 }
 
 /// Which log is searched for violations, and how they are shown.
-#[derive(Clone, Copy, Debug)]
+#[derive(Clone, Copy)]
 pub struct LogRequest<'a> {
     /// The file with the log; standard input where none is named.
     pub file: Option<&'a str>,
@@ -144,7 +144,7 @@ pub struct LogRequest<'a> {
 }
 
 /// What the arguments of a command line ask for.
-#[derive(Debug, Drop)]
+#[derive(Drop)]
 pub enum Request<'a> {
     /// To judge one trace.
     Judge(JudgeRequest<'a>),
@@ -184,7 +184,7 @@ pub enum Request<'a> {
 }
 
 /// What is told on standard error beside what a request asks for.
-#[derive(Clone, Copy, Debug, PartialEq, Eq)]
+#[derive(Clone, Copy)]
 pub struct Notes {
     /// Whether a second line after `FAULT Read` names the file and the system's reason.
     pub verbose: bool,
@@ -199,7 +199,7 @@ pub(crate) const NO_NOTES: Notes = Notes {
 };
 
 /// What the arguments of a command line say.
-#[derive(Debug, Drop)]
+#[derive(Drop)]
 pub struct CommandLine<'a> {
     /// What they ask for.
     pub request: Request<'a>,

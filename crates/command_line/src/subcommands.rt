@@ -9,6 +9,7 @@ ghost use Rattle.command_line.specs.Commands.{asked_by, asked_in, memory_of, not
 ghost use Rattle.command_line.specs.Subcommands.{subcommands};
 ghost use Rattle.command_line.specs.Internal.Computed.{help_option_of, member_of, parameter_of};
 
+use crate::help::Help;
 use crate::options::{OptionNames, Presentation};
 use crate::parameters::{Description, subcommand_of};
 use crate::requests::{JudgeRequest, NO_NOTES, Notes, Request};
@@ -73,7 +74,7 @@ static SUBCOMMANDS: [Subcommand; 14] = [
 ];
 
 impl Subcommand {
-    /// What is told of it.
+    /// How it is written, and what may stand after it.
     fn description(self) -> &'static Description
         ensures name { map (λ word. word.now) result.now.help_option ≡ (member_of self).name ∷ codes "--help" ∷ [] }
         ensures parameters { map parameter_of result.now.parameters.now ≡ (member_of self).parameters }
@@ -96,6 +97,26 @@ impl Subcommand {
         }
     }
 
+    /// What the help says of it.
+    fn help(self) -> &'static Help {
+        match self {
+            Subcommand::Judge => &judge::HELP,
+            Subcommand::Decide => &decide::HELP,
+            Subcommand::Explain => &explain::HELP,
+            Subcommand::Draw => &draw::HELP,
+            Subcommand::Reduce => &reduce::HELP,
+            Subcommand::Batch => &batch::HELP,
+            Subcommand::Log => &log::HELP,
+            Subcommand::Check => &check::HELP,
+            Subcommand::Verify => &verify::HELP,
+            Subcommand::Outcomes => &outcomes::HELP,
+            Subcommand::Replay => &replay::HELP,
+            Subcommand::Run => &run::HELP,
+            Subcommand::Make => &make::HELP,
+            Subcommand::Campaign => &campaign::HELP,
+        }
+    }
+
     /// Its name.
     fn name(self) -> &'static str
         ensures { result.now ≡ (member_of self).name }
@@ -108,7 +129,7 @@ impl Subcommand {
         ensures app { IfOk result (λ command. app_of command ≡ offered_app (memory_of names.entry) (member_of self).name (member_of self).parameters) }
         ensures local { IfOk result (λ command. (fields_of command).has_globals ≡ false) }
     {
-        subcommand_of(alloc, names, self.name(), self.description())
+        subcommand_of(alloc, names, self.name(), self.description(), self.help())
     }
 
     /// What its matches ask for.
@@ -177,12 +198,13 @@ fn program_command<'a>(alloc: Global) -> Result<Command<'a>, AllocError>
     ensures app { IfOk result (λ command. app_of command ≡ program_app) }
     ensures local { IfOk result (λ command. (fields_of command).has_globals ≡ false) }
 {
+    let help = help::of_program();
     let command = Command::new(alloc, "tsobench")
         .bin_name("tsobench")?
         .no_binary_name(true)
         .version(VERSION)
-        .about(help::ABOUT)
-        .after_help(help::PROGRAM);
+        .about(help.about)
+        .after_help(help.text);
     Ok(command)
 }
 

@@ -6,4 +6,3 @@ mod gates;
 mod logged_runs;
 mod refused;
 mod runs;
-mod units;

@@ -1,5 +1,5 @@
 //! What is told on standard error beside what a request prints: how much is done, why a file can't be read, and what a refused
-//! text looks like.
+//! text looks like, or within which limits refused numbers aren't.
 
 use crate::hints::Likeness;
 use command_line::Notes;
@@ -15,7 +15,7 @@ use std::time::{Duration, Instant};
 const INTERVAL: u64 = 1;
 
 /// What is told on the standard error of a runtime: what is asked for, and on a terminal, where a person reads it, also why a
-/// file can't be read and what a refused text looks like.
+/// file can't be read, what a refused text looks like, and which limits refused numbers break.
 #[derive(Drop)]
 pub struct Diagnostics<'h, H> {
     rt: &'h H,
@@ -33,6 +33,8 @@ pub struct Diagnostics<'h, H> {
     failure: Cell<Option<String>>,
     /// What the first text that was read looks like, or the last that is empty.
     likeness: Cell<Option<Likeness>>,
+    /// The limits of the numbers that are asked for.
+    limits: Cell<Option<&'static str>>,
 }
 
 impl<'h, H: Eprint + Clock + AllocGlobal> Diagnostics<'h, H> {
@@ -51,6 +53,7 @@ impl<'h, H: Eprint + Clock + AllocGlobal> Diagnostics<'h, H> {
             has_line: Cell::new(false),
             failure: Cell::new(None),
             likeness: Cell::new(None),
+            limits: Cell::new(None),
         }
     }
 
@@ -130,7 +133,7 @@ impl<'h, H: Eprint + Clock + AllocGlobal> Diagnostics<'h, H> {
         }
     }
 
-    /// Whether it is told why a file can't be read, and what a refused text looks like.
+    /// Whether it is told why a file can't be read or a request was refused.
     fn tells_reasons(&self) -> bool {
         self.is_terminal || self.notes.get().verbose
     }
@@ -160,12 +163,19 @@ impl<'h, H: Eprint + Clock + AllocGlobal> Diagnostics<'h, H> {
         }
     }
 
-    /// Tells what a text looks like that this subcommand refused, where it reads no such texts.
+    /// Notes the limits of the numbers that are asked for, where these may be told.
+    pub(crate) fn note_limits(&self, limits: &'static str) {
+        if self.tells_reasons() {
+            self.limits.set(Some(limits));
+        }
+    }
+
+    /// Tells within which limits numbers had to be that this subcommand refused, or what a text looks like that it refused,
+    /// where it reads no such texts.
     pub(crate) fn tell_hint(&self, subcommand: &str) {
-        if let Some(likeness) = self.likeness.get() {
-            if let Some(hint) = likeness.hint(subcommand) {
-                let _ = eprint!(self.rt; "{hint}\n");
-            }
+        let of_text = || self.likeness.get()?.hint(subcommand);
+        if let Some(hint) = self.limits.get().or_else(of_text) {
+            let _ = eprint!(self.rt; "{hint}\n");
         }
     }
 

@@ -39,8 +39,9 @@ use trace_judging::Fault;
 /// schedule are read, 67,108,865 of a certificate and of evidence; of many traces and of a log all are.
 ///
 /// With `--verbose`, or where the standard error of their runtime is a terminal, the diagnostics tell after the line of a fault
-/// why a file can't be opened or read, or the reader where they watch it, and after a refusal what the text looks like; with
-/// `--progress` how much is done. All of this goes to that standard error, of which no clause speaks.
+/// why a file can't be opened or read, or the reader where they watch it, and after a refusal what the text looks like or which
+/// limits the numbers break; with `--progress` how much is done. All of this goes to that standard error, of which no clause
+/// speaks.
 pub fn drive<
     H: Threads + Wait + Sync + Files + AllocGlobal + Eprint + Clock,
     R: Read,

@@ -9,7 +9,7 @@ use std::alloc::{AllocError, AllocFailed};
 use trace_judging::Fault;
 
 /// Why nothing was printed of a run, or not all.
-#[derive(Clone, Copy, Debug, PartialEq, Eq)]
+#[derive(Clone, Copy)]
 pub enum RunFailure {
     /// A fault as of any other request.
     Fault(Fault),

@@ -43,12 +43,15 @@ pub trait Surroundings {
     /// What hears how many parts of this name are done, of so many where that is known.
     fn meter(&self, parts: &'static str, total: Option<u64>) -> Self::Meter;
 
+    /// Hears within which limits the numbers have to be that are asked for, which a person is told where they are refused.
+    fn note_limits(&self, limits: &'static str);
+
     /// Hears that no more is done, before a fault is told.
     fn finish(&self);
 }
 
 /// The files of the system, and its standard error.
-#[derive(Clone, Copy)]
+#[derive(Drop)]
 pub struct SystemFiles<'h, H> {
     rt: &'h H,
     diagnostics: &'h Diagnostics<'h, H>,
@@ -83,6 +86,10 @@ impl<'h, H: Files + Eprint + Clock + AllocGlobal> Surroundings for SystemFiles<'
     fn meter(&self, parts: &'static str, total: Option<u64>) -> &'h Diagnostics<'h, H> {
         self.diagnostics.count(parts, total);
         self.diagnostics
+    }
+
+    fn note_limits(&self, limits: &'static str) {
+        self.diagnostics.note_limits(limits);
     }
 
     fn finish(&self) {

@@ -1,9 +1,18 @@
-//! What a person is told whose text was refused: what the text looks like, and what reads such texts.
+//! What a person is told whose request was refused: what the text looks like, and what reads such texts; or within which
+//! limits numbers are taken.
 
 use line_text::{next_line, next_token, number_of};
 
+/// Told where a shape was refused.
+pub(crate) const SHAPE_LIMITS: &str =
+    "a program has 1 to 16 processors, 1 to 256 addresses and at most 1000 operations over all processors";
+
+/// Told where seeds were refused.
+pub(crate) const SEEDS_LIMITS: &str =
+    "a campaign has at most 1000 seeds, the last of them at most 18446744073709551615";
+
 /// What a text looks like by its first line.
-#[derive(Clone, Copy, Debug, PartialEq, Eq)]
+#[derive(Clone, Copy)]
 pub(crate) enum Likeness {
     /// It has no byte.
     Empty,

@@ -11,8 +11,9 @@ use crate::endings::{
     DONE, REFUSED, end, end_answer, end_batch, end_by, end_log, end_run, end_with,
 };
 use crate::files::Surroundings;
+use crate::hints::SHAPE_LIMITS;
 use crate::serving::batching::batch_named;
-use crate::serving::campaigning::campaign_by;
+use crate::serving::campaigning::{campaign_by, limits_of};
 use crate::serving::checking::check_named;
 use crate::serving::counting::count_named;
 use crate::serving::deciding::decide_named;
@@ -141,10 +142,12 @@ pub fn serve<H: Threads + Wait + Sync + AllocGlobal, O: Surroundings, R: Read, W
             end_run(repeated, errors)
         }
         Request::Make(options) => {
+            files.note_limits(SHAPE_LIMITS);
             let made = make(rt.alloc(), options, writer);
             end_with(made, errors)
         }
         Request::Campaign(options) => {
+            files.note_limits(limits_of(options));
             let meter = files.meter("seeds", Some(options.count));
             let ran = campaign_by(rt, options, &meter, writer);
             files.finish();

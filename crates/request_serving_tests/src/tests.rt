@@ -90,6 +90,8 @@ impl Surroundings for MemoryFiles {
         NoMeter
     }
 
+    fn note_limits(&self, _limits: &'static str) {}
+
     fn finish(&self) {}
 }
 

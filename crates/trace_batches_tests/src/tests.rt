@@ -5,6 +5,7 @@ mod decided;
 mod faults;
 mod names;
 mod numbers;
+mod outcomes;
 mod required;
 mod several;
 mod streams;

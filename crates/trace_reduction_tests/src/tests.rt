@@ -3,6 +3,7 @@
 mod cases;
 mod chains;
 mod deciding;
+mod logs;
 mod parts;
 mod searching;
 

@@ -1,9 +1,9 @@
-//! What no text of a trace shows of reports: readers and writers that fail, records of memory units, a trace by value, and refused
-//! allocations. Reports of texts and of certificates are in `program-cases/` and `examples/`.
+//! What no text of a trace shows of reports: readers and writers that fail, a trace by value, refused
+//! allocations, and campaigns. Reports of texts and of certificates are in `program-cases/` and `examples/`.
 
 mod by_value;
+mod campaigns;
 mod readers;
-mod records;
 mod refused_allocations;
 mod texts;
 mod writers;

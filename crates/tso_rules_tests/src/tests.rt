@@ -1,8 +1,11 @@
 //! Worked examples, how many rounds traces take, in which form they are made, and which traces are shown to have no cycle.
 
 mod acyclic;
+mod checkers;
 mod counts;
 mod forms;
+mod rounds;
+mod texts;
 mod worked;
 
 use chain_rules::{RoundCount, count_rounds};

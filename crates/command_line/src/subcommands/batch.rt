@@ -1,12 +1,13 @@
 //! `batch [--workers N] [--format FORMAT] [--quiet] [--violations] [--decide] [--effort N] [--require N] [--progress] [--verbose] [FILE]...`:
 //! judges traces that stand one after the other, or decides on them.
 
+use crate::help::Help;
 use crate::options::MAX_WORKERS;
 use crate::parameters::{Accepted, Description, NameList, Parameter};
 use crate::subcommands::shared;
 
 /// The text of its help after the list of its parameters.
-const HELP: &str = "\
+const TEXT: &str = "\
 It reads texts of traces that stand one after the other: each ends with its line
 `end`. Those that came together are judged side by side, and before it reads on
 it prints a line for each, in order: trace 1 NO VIOLATION FOUND,
@@ -62,11 +63,15 @@ Example:
   tsobench batch --violations TRACES >VIOLATIONS
   tsobench batch --decide --quiet TRACES";
 
-/// What is told of it.
+/// What the help says of it.
+pub(crate) static HELP: Help = Help {
+    about: "Judges many traces, with a line for each",
+    text: TEXT,
+};
+
+/// What may stand after it.
 pub(crate) static BATCH: Description = Description {
     help_option: ["batch", "--help"],
-    about: "Judges many traces, with a line for each",
-    help: HELP,
     parameters: &[
         Parameter::Option {
             name: "workers",

@@ -1,12 +1,13 @@
 //! `campaign --unit UNIT [--capacity C] [--trigger T] [--workers N] [--replay] [--drain-turns T] [--trace] [--model MODEL] --first S --count K
 //! --procs P --ops O --addrs A`: runs or replays the programs that many seeds draw.
 
+use crate::help::Help;
 use crate::options::MAX_WORKERS;
 use crate::parameters::{Accepted, Description, Parameter};
 use crate::subcommands::shared;
 
 /// The text of its help after the list of its parameters.
-const HELP: &str = "\
+const TEXT: &str = "\
 It takes the seeds S, S + 1 and so on, K of them. From each it draws a program,
 as `tsobench make` does, and runs it on a memory unit of its own, as
 `tsobench run` does with the same seed; the trace of what the unit answered is
@@ -48,11 +49,15 @@ Example:
   tsobench campaign --unit buffer --first 1 --count 20 \\
     --procs 2 --ops 4 --addrs 2";
 
-/// What is told of it.
+/// What the help says of it.
+pub(crate) static HELP: Help = Help {
+    about: "Runs or replays the programs of many seeds, and judges their traces",
+    text: TEXT,
+};
+
+/// What may stand after it.
 pub(crate) static CAMPAIGN: Description = Description {
     help_option: ["campaign", "--help"],
-    about: "Runs or replays the programs of many seeds, and judges their traces",
-    help: HELP,
     parameters: &[
         shared::UNIT,
         shared::CAPACITY,

@@ -1,10 +1,11 @@
 //! `check [--nth K] TRACE CERT`: checks a certificate against its trace.
 
+use crate::help::Help;
 use crate::parameters::{Description, Parameter};
 use crate::subcommands::shared;
 
 /// The text of its help after the list of its parameters.
-const HELP: &str = "\
+const TEXT: &str = "\
 It reads the text of a trace and that of a certificate, at most 67,108,864
 bytes, as it stands in a report after the line VIOLATION. It prints one line:
 CERTIFICATE HOLDS, which proves that no order of the trace meets its memory
@@ -23,11 +24,15 @@ Example:
   tsobench judge TRACE | sed '1,/^VIOLATION$/d' > CERT
   tsobench check TRACE CERT";
 
-/// What is told of it.
+/// What the help says of it.
+pub(crate) static HELP: Help = Help {
+    about: "Checks a certificate of a violation against its trace",
+    text: TEXT,
+};
+
+/// What may stand after it.
 pub(crate) static CHECK: Description = Description {
     help_option: ["check", "--help"],
-    about: "Checks a certificate of a violation against its trace",
-    help: HELP,
     parameters: &[
         shared::NTH,
         shared::VERBOSE,

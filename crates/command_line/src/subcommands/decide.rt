@@ -1,11 +1,12 @@
 //! `decide [--effort N] [--workers N] [--nth K] [--verbose] [FILE]`: decides whether a trace has an order that meets the
 //! axioms of its memory model.
 
+use crate::help::Help;
 use crate::parameters::Description;
 use crate::subcommands::shared;
 
 /// The text of its help after the list of its parameters.
-const HELP: &str = "\
+const TEXT: &str = "\
 It reads the text of a trace, as `tsobench judge` does, and looks for an order
 of all events that meets the axioms of the memory model, or for a proof that
 there is none. It prints a line TSO DECISION 1, a line as processors 2 events 4,
@@ -39,11 +40,15 @@ Example:
   tsobench decide TRACE
   tsobench decide TRACE | sed '1,/^CONSISTENT$/d' > ORDER";
 
-/// What is told of it.
+/// What the help says of it.
+pub(crate) static HELP: Help = Help {
+    about: "Decides whether a trace has an order that its memory model allows",
+    text: TEXT,
+};
+
+/// What may stand after it.
 pub(crate) static DECIDE: Description = Description {
     help_option: ["decide", "--help"],
-    about: "Decides whether a trace has an order that its memory model allows",
-    help: HELP,
     parameters: &[
         shared::EFFORT,
         shared::WORKERS,

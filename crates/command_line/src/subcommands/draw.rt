@@ -1,10 +1,11 @@
 //! `draw [--edges NAMES] [--decide] [--effort N] [--workers N] [--nth K] [--verbose] [FILE]`: a picture of the verdict or the decision on a trace.
 
+use crate::help::Help;
 use crate::parameters::{Accepted, Description, NameList, Parameter};
 use crate::subcommands::shared;
 
 /// The text of its help after the list of its parameters.
-const HELP: &str = "\
+const TEXT: &str = "\
 It reads the text of a trace, as `tsobench judge` does, and prints a picture of
 it as a text for Graphviz, whose `dot -Tsvg` makes an SVG file of it. Each
 processor has a column, in program order from above. A blue edge leads from a
@@ -36,11 +37,15 @@ Example:
   tsobench draw --edges field TRACE | dot -Tsvg >FIELD.svg
   tsobench draw --decide TRACE | dot -Tsvg >ORDER.svg";
 
-/// What is told of it.
+/// What the help says of it.
+pub(crate) static HELP: Help = Help {
+    about: "Draws a trace and why it is a violation, for Graphviz",
+    text: TEXT,
+};
+
+/// What may stand after it.
 pub(crate) static DRAW: Description = Description {
     help_option: ["draw", "--help"],
-    about: "Draws a trace and why it is a violation, for Graphviz",
-    help: HELP,
     parameters: &[
         Parameter::Option {
             name: "edges",

@@ -1,10 +1,11 @@
 //! `explain [--decide] [--effort N] [--workers N] [--nth K] [--verbose] [FILE]`: explains the verdict or the decision on a trace.
 
+use crate::help::Help;
 use crate::parameters::Description;
 use crate::subcommands::shared;
 
 /// The text of its help after the list of its parameters.
-const HELP: &str = "\
+const TEXT: &str = "\
 It reads the text of a trace, as `tsobench judge` does, and prints its report up
 to the verdict. Of a violation it says then what can't be: the events that would
 have to stand each before the next and the last before the first, why each of
@@ -29,11 +30,15 @@ Example:
   tsobench explain TRACE
   tsobench explain --decide TRACE";
 
-/// What is told of it.
+/// What the help says of it.
+pub(crate) static HELP: Help = Help {
+    about: "Explains in words why a trace is a violation",
+    text: TEXT,
+};
+
+/// What may stand after it.
 pub(crate) static EXPLAIN: Description = Description {
     help_option: ["explain", "--help"],
-    about: "Explains in words why a trace is a violation",
-    help: HELP,
     parameters: &[
         shared::DECIDE,
         shared::EFFORT,

@@ -1,10 +1,11 @@
 //! `judge [--workers N] [--nth K] [FILE]`: judges a trace.
 
+use crate::help::Help;
 use crate::parameters::Description;
 use crate::subcommands::shared;
 
 /// The text of its help after the list of its parameters.
-const HELP: &str = "\
+const TEXT: &str = "\
 It reads the text of a trace, at most 1,048,576 bytes, and prints its report:
 two lines with the numbers of processors, events and rounds, and then
 NO VIOLATION FOUND, or VIOLATION and the certificate, which `tsobench check`
@@ -25,11 +26,15 @@ Exit status:
 Example:
   tsobench judge --workers 4 TRACE";
 
-/// What is told of it.
+/// What the help says of it.
+pub(crate) static HELP: Help = Help {
+    about: "Judges a trace and prints its report",
+    text: TEXT,
+};
+
+/// What may stand after it.
 pub(crate) static JUDGE: Description = Description {
     help_option: ["judge", "--help"],
-    about: "Judges a trace and prints its report",
-    help: HELP,
     parameters: &[
         shared::WORKERS,
         shared::NTH,

@@ -1,12 +1,13 @@
 //! `log [--most K] [--effort N] [--max-unknown PERCENT] [--ended] [--trace|--explain] [--progress] [--verbose] [FILE]`: finds
 //! violations of a log.
 
+use crate::help::Help;
 use crate::options::{MAX_LOG_EFFORT, MAX_LOG_VIOLATIONS, MAX_PERCENT};
 use crate::parameters::{Accepted, Description, Parameter};
 use crate::subcommands::shared;
 
 /// The text of its help after the list of its parameters.
-const HELP: &str = "\
+const TEXT: &str = "\
 It reads a log of what the processors of a machine did, of any length, and looks
 for violations: lines of the log that no memory order explains. Each line is an
 operation of a processor P, 0 to 4095, and the lines of a processor stand in the
@@ -54,11 +55,15 @@ Exit status:
 Example:
   tsobench log --explain LOG";
 
-/// What is told of it.
+/// What the help says of it.
+pub(crate) static HELP: Help = Help {
+    about: "Finds violations of a log, and prints their lines",
+    text: TEXT,
+};
+
+/// What may stand after it.
 pub(crate) static LOG: Description = Description {
     help_option: ["log", "--help"],
-    about: "Finds violations of a log, and prints their lines",
-    help: HELP,
     parameters: &[
         Parameter::Option {
             name: "most",

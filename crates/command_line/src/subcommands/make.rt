@@ -1,11 +1,12 @@
 //! `make [--schedule] [--model MODEL] --seed N --procs P --ops O --addrs A`: prints the program that a seed draws, or its
 //! schedule.
 
+use crate::help::Help;
 use crate::parameters::{Accepted, Description, Parameter};
 use crate::subcommands::shared;
 
 /// The text of its help after the list of its parameters.
-const HELP: &str = "\
+const TEXT: &str = "\
 It draws a program from a seed and prints its text, which `tsobench run` and
 `tsobench replay` read. The same arguments give the same program each time.
 
@@ -33,11 +34,15 @@ Example:
   tsobench make --schedule --seed 1 --procs 2 --ops 4 --addrs 2 > SCHEDULE
   tsobench replay --unit buffer PROGRAM SCHEDULE";
 
-/// What is told of it.
+/// What the help says of it.
+pub(crate) static HELP: Help = Help {
+    about: "Prints the program that is drawn from a seed, or its schedule",
+    text: TEXT,
+};
+
+/// What may stand after it.
 pub(crate) static MAKE: Description = Description {
     help_option: ["make", "--help"],
-    about: "Prints the program that is drawn from a seed, or its schedule",
-    help: HELP,
     parameters: &[
         Parameter::Flag {
             name: "schedule",

@@ -1,10 +1,11 @@
 //! `outcomes [--states] [--limit N] [--seen STREAM] [--verbose] PROGRAM`: lists the outcomes of a program, or counts those of a stream of traces.
 
+use crate::help::Help;
 use crate::parameters::{Accepted, Description, Parameter};
 use crate::subcommands::shared;
 
 /// The text of its help after the list of its parameters.
-const HELP: &str = "\
+const TEXT: &str = "\
 It reads the text of a program, and follows all runs of the store-buffer machine
 of the program's memory model. It prints each trace that a complete run leaves,
 once, one after the other, in ascending order of the values that were read.
@@ -45,11 +46,15 @@ Example:
   tsobench run --unit buffer --seed 1 --times 1000 --trace PROGRAM \\
     | tsobench outcomes --seen - PROGRAM";
 
-/// What is told of it.
+/// What the help says of it.
+pub(crate) static HELP: Help = Help {
+    about: "Lists all outcomes of a program, or counts those in a stream",
+    text: TEXT,
+};
+
+/// What may stand after it.
 pub(crate) static OUTCOMES: Description = Description {
     help_option: ["outcomes", "--help"],
-    about: "Lists all outcomes of a program, or counts those in a stream",
-    help: HELP,
     parameters: &[
         Parameter::Flag {
             name: "states",

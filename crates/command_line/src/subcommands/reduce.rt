@@ -1,10 +1,11 @@
 //! `reduce [--nth K] [--verbose] [FILE]`: reduces a trace to a small one that shows its violation.
 
+use crate::help::Help;
 use crate::parameters::Description;
 use crate::subcommands::shared;
 
 /// The text of its help after the list of its parameters.
-const HELP: &str = "\
+const TEXT: &str = "\
 It reads the text of a trace, as `tsobench judge` does. Where the trace is a
 violation it prints the text of a small trace that shows this: some of its
 operations, with other addresses and values, which are a violation by
@@ -26,10 +27,14 @@ Exit status:
 Example:
   tsobench reduce TRACE | tsobench explain";
 
-/// What is told of it.
+/// What the help says of it.
+pub(crate) static HELP: Help = Help {
+    about: "Reduces a violation to the few operations that show it",
+    text: TEXT,
+};
+
+/// What may stand after it.
 pub(crate) static REDUCE: Description = Description {
     help_option: ["reduce", "--help"],
-    about: "Reduces a violation to the few operations that show it",
-    help: HELP,
     parameters: &[shared::NTH, shared::VERBOSE, shared::TRACE_FILE],
 };

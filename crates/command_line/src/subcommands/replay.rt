@@ -1,11 +1,12 @@
 //! `replay --unit UNIT [--capacity C] [--trigger T] [--workers N] [--trace|--explain] [--with-trace] PROGRAM SCHEDULE`: replays a program by a
 //! schedule.
 
+use crate::help::Help;
 use crate::parameters::{Description, Parameter};
 use crate::subcommands::shared;
 
 /// The text of its help after the list of its parameters.
-const HELP: &str = "\
+const TEXT: &str = "\
 It reads the text of a program and that of a schedule, and runs the program on
 the memory unit: each line of the schedule says which processor issues its next
 operation, or drains a waiting store. The trace of what the unit answered is
@@ -30,11 +31,15 @@ Exit status:
 Example:
   tsobench replay --unit serial PROGRAM SCHEDULE";
 
-/// What is told of it.
+/// What the help says of it.
+pub(crate) static HELP: Help = Help {
+    about: "Replays a program by a schedule, and judges the trace",
+    text: TEXT,
+};
+
+/// What may stand after it.
 pub(crate) static REPLAY: Description = Description {
     help_option: ["replay", "--help"],
-    about: "Replays a program by a schedule, and judges the trace",
-    help: HELP,
     parameters: &[
         shared::UNIT,
         shared::CAPACITY,

@@ -1,12 +1,13 @@
 //! `run --unit UNIT [--capacity C] [--trigger T] [--workers N] [--trace|--explain] [--with-trace] --seed N [--drain-turns T] [--times N] PROGRAM`:
 //! runs a program with a thread per processor.
 
+use crate::help::Help;
 use crate::options::MAX_RUN_TIMES;
 use crate::parameters::{Accepted, Description, Parameter};
 use crate::subcommands::shared;
 
 /// The text of its help after the list of its parameters.
-const HELP: &str = "\
+const TEXT: &str = "\
 It reads the text of a program, and runs the program on the memory unit: each
 processor has a thread of its own, which issues its operations in program order,
 and the unit serves one call at a time. After each operation the thread drains
@@ -46,11 +47,15 @@ Example:
 
 const _: () = prove!(MAX_RUN_TIMES == 1_000_000);
 
-/// What is told of it.
+/// What the help says of it.
+pub(crate) static HELP: Help = Help {
+    about: "Runs a program with a thread per processor, and judges the trace",
+    text: TEXT,
+};
+
+/// What may stand after it.
 pub(crate) static RUN: Description = Description {
     help_option: ["run", "--help"],
-    about: "Runs a program with a thread per processor, and judges the trace",
-    help: HELP,
     parameters: &[
         shared::UNIT,
         shared::CAPACITY,

@@ -1,11 +1,12 @@
 //! `verify [--nth K] [--verbose] TRACE EVIDENCE`: checks evidence of whether a trace has an order that meets the axioms of
 //! its memory model.
 
+use crate::help::Help;
 use crate::parameters::{Description, Parameter};
 use crate::subcommands::shared;
 
 /// The text of its help after the list of its parameters.
-const HELP: &str = "\
+const TEXT: &str = "\
 It reads the text of a trace and that of evidence on it, at most 67,108,864
 bytes, as it stands in a decision of `tsobench decide` after the line CONSISTENT
 or VIOLATION: an order, a line `unwritten N`, a certificate or a refutation by
@@ -31,11 +32,15 @@ Example:
   tsobench decide TRACE | sed 1,3d > EVIDENCE
   tsobench verify TRACE EVIDENCE";
 
-/// What is told of it.
+/// What the help says of it.
+pub(crate) static HELP: Help = Help {
+    about: "Checks an order of a trace, or evidence that there is none",
+    text: TEXT,
+};
+
+/// What may stand after it.
 pub(crate) static VERIFY: Description = Description {
     help_option: ["verify", "--help"],
-    about: "Checks an order of a trace, or evidence that there is none",
-    help: HELP,
     parameters: &[
         shared::NTH,
         shared::VERBOSE,

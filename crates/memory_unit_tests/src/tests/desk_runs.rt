@@ -11,6 +11,7 @@ use issue_desk::{
     Gate, Issuers, OpenGate, RunFault, RunThreads, run, run_over, run_with_drainer,
     run_with_drainer_over,
 };
+use large::is_whole;
 use std::alloc::Global;
 use std::sync::{Arc, Wait};
 use std::test::Fail;
@@ -32,60 +33,81 @@ pub(super) fn threads_at<G>(gate: &G, drain_seed: u64, turns: u64) -> RunThreads
     RunThreads { issuers, turns }
 }
 
-/// How a run on a unit that counts its calls ended: its answer, the account, and the numbers of calls.
-#[derive(Drop)]
+/// What record a run is to give.
+#[derive(Clone, Copy)]
+pub(super) enum Wanted<'a> {
+    /// A lawful one.
+    Lawful,
+    /// A lawful one of these processors.
+    Rows(&'a [&'a [Outcome]]),
+    /// A lawful one with all operations of this program, and no others.
+    All(&'a Program),
+}
+
+impl Wanted<'_> {
+    fn is_met(self, recorded: &Recorded) -> bool {
+        match self {
+            Wanted::Lawful => recorded.lawful(),
+            Wanted::Rows(rows) => is_record(recorded, true, rows),
+            Wanted::All(program) => is_whole(recorded, program),
+        }
+    }
+}
+
+/// How a run on a unit that counts its calls ended: whether the record was the wanted one, or the fault; the numbers of the account,
+/// and whether it is closed; and the numbers of calls.
+#[derive(Clone, Copy)]
 pub(super) struct Ended {
-    answer: Result<Recorded, RunFault>,
-    account: Account,
+    pub(super) answer: Result<bool, RunFault>,
+    pub(super) account: ([usize; 5], bool),
     numbers: [u64; 7],
 }
 
 impl Ended {
-    /// Whether the record is lawful, or the fault.
-    pub(super) fn lawful(&self) -> Result<bool, RunFault> {
-        match &self.answer {
-            Ok(recorded) => Ok(recorded.lawful()),
-            Err(fault) => Err(*fault),
-        }
-    }
-
-    /// Whether the answer is a lawful record of these processors.
-    fn is_record_of(&self, rows: &[&[Outcome]]) -> bool {
-        match &self.answer {
-            Ok(recorded) => is_record(recorded, true, rows),
-            Err(_) => false,
-        }
-    }
-
     /// How many units were dropped.
-    fn drops(&self) -> u64 {
+    fn drops(self) -> u64 {
         let [_, _, _, _, _, _, drops] = self.numbers;
         drops
     }
 }
 
-/// Runs a program by these threads on a store-buffer unit, in a box, that counts its calls in these counts and refuses the one
-/// of this number, none where it is 0.
+/// A program, the call of the unit that is refused, none where it is 0, and the wanted record.
+#[derive(Clone, Copy)]
+pub(super) struct Given<'a> {
+    pub(super) program: &'a Program,
+    pub(super) refused: u64,
+    pub(super) wanted: Wanted<'a>,
+}
+
+/// Whether the answer is the wanted record, or the fault.
+fn is_wanted(answer: Result<Recorded, RunFault>, wanted: Wanted<'_>) -> Result<bool, RunFault> {
+    match answer {
+        Ok(recorded) => Ok(wanted.is_met(&recorded)),
+        Err(fault) => Err(fault),
+    }
+}
+
+/// Runs a program by these threads on a store-buffer unit, in a box, that counts its calls in these counts.
 fn run_counted<H: Threads + Wait + Sync, G: Gate + Sync>(
     rt: &H,
     alloc: Global,
-    program: &Program,
-    refused: u64,
+    given: Given<'_>,
     threads: RunThreads<'_, G>,
     counts: &Arc<CallCounts, Global>,
 ) -> Result<Ended, OutOfMemory>
     requires { threads.turns ≤ 1000000 }
 {
-    let unit = counted_unit(alloc, true, refused, counts)?;
+    let unit = counted_unit(alloc, true, given.refused, counts)?;
     let mut account = OTHER_ACCOUNT;
     let answer = if threads.turns == 0 {
+        let Given { program, .. } = given;
         run(rt, alloc, program, unit, threads.issuers, &mut account)
     } else {
-        run_with_drainer(rt, alloc, program, unit, threads, &mut account)
+        run_with_drainer(rt, alloc, given.program, unit, threads, &mut account)
     };
     Ok(Ended {
-        answer,
-        account,
+        answer: is_wanted(answer, given.wanted),
+        account: numbers_in(&account),
         numbers: numbers_of(counts),
     })
 }
@@ -101,21 +123,48 @@ pub(super) fn run_past<H: Threads + Wait + Sync, G: Gate + Sync>(
     requires { threads.turns ≤ 1000000 }
 {
     let program = program_of(alloc, Order::Tso, ops)?;
-    Ok(run_counted(rt, alloc, &program, 0, threads, counts)?)
+    let given = Given {
+        program: &program,
+        refused: 0,
+        wanted: Wanted::Lawful,
+    };
+    Ok(run_counted(rt, alloc, given, threads, counts)?)
 }
 
-/// The run of these operations by issuers that no gate holds back, of which the call of this number is refused.
+/// A run by issuers that no gate holds back, and a drainer with so many turns: the call that is refused, and the wanted record.
+#[derive(Clone, Copy)]
+struct Free<'a> {
+    drain_seed: u64,
+    turns: u16,
+    refused: u64,
+    wanted: Wanted<'a>,
+}
+
+/// The run of these operations.
 fn run_freely<H: Threads + Wait + Sync>(
     rt: &H,
     alloc: Global,
     ops: &[&[Op]],
-    refused: u64,
-    (drain_seed, turns): (u64, u16),
+    free: Free<'_>,
 ) -> Result<Ended, ValueFault> {
     let program = program_of(alloc, Order::Tso, ops)?;
-    let counts = new_counts(alloc)?;
-    let threads = threads_at(&OpenGate, drain_seed, u64::from(turns));
-    Ok(run_counted(rt, alloc, &program, refused, threads, &counts)?)
+    run_program(rt, alloc, &program, free)
+}
+
+/// The run of this program.
+fn run_program<H: Threads + Wait + Sync>(
+    rt: &H,
+    alloc: Global,
+    program: &Program,
+    free: Free<'_>,
+) -> Result<Ended, ValueFault> {
+    let given = Given {
+        program,
+        refused: free.refused,
+        wanted: free.wanted,
+    };
+    let threads = threads_at(&OpenGate, free.drain_seed, u64::from(free.turns));
+    Ok(run_counted(rt, alloc, given, threads, &new_counts(alloc)?)?)
 }
 
 /// The run of `STORES_THEN_LOADS` past this gate gives a lawful record, closes the account and drops the unit.
@@ -128,7 +177,7 @@ fn expect_stores<H: Threads + Wait + Sync, G: Gate + Sync>(
 ) -> Result<(), Fail> {
     let threads = threads_at(gate, 1, u64::from(turns));
     let ended = run_past(rt, alloc, &STORES_THEN_LOADS, threads, counts)?;
-    let found = (ended.lawful(), numbers_in(&ended.account), ended.drops());
+    let found = (ended.answer, ended.account, ended.drops());
     expect_equal(turns, found, (Ok(true), ([2, 2, 0, 0, 2], true), 1))
 }
 
@@ -160,7 +209,7 @@ fn is_between_turns<H: Threads + Wait + Sync>(rt: &H, alloc: Global) -> Result<b
     let threads = threads_at(&gate, 1, MANY_TURNS);
     let ended = run_past(rt, alloc, &[&[Op::Ld { a: 1 }]], threads, &counts)?;
     let is_before_last = gate.drains() < MANY_TURNS;
-    Ok(ended.lawful().is_ok() && gate.has_waited() && is_before_last)
+    Ok(ended.answer.is_ok() && gate.has_waited() && is_before_last)
 }
 
 /// Whether the load came between two turns in one of 100 runs.
@@ -191,24 +240,41 @@ const INVENTED_ROWS: [&[Outcome]; 1] = [&[
     Outcome::Ld { a: 1, r: INVENTED },
 ]];
 
+/// A run by issuers with this drain seed, of which no call is refused.
+fn issuers_alone(drain_seed: u64, wanted: Wanted<'_>) -> Free<'_> {
+    Free {
+        drain_seed,
+        turns: 0,
+        refused: 0,
+        wanted,
+    }
+}
+
 #[test]
 fn run_forwarded(rt: HostRuntime) -> Result<(), Fail> {
     for seed in [0, 1, 2, 3, u64::MAX] {
-        let ended = run_freely(&rt, rt.alloc(), &FORWARDED, 0, (seed, 0))?;
-        expect_equal(seed, ended.is_record_of(&FORWARDED_ROWS), true)?;
-        expect_equal(seed, numbers_in(&ended.account), ([1, 1, 0, 0, 1], true))?;
+        let ended = run_freely(
+            &rt,
+            rt.alloc(),
+            &FORWARDED,
+            issuers_alone(seed, Wanted::Rows(&FORWARDED_ROWS)),
+        )?;
         let [loads, stores, _, _, _, _, drops] = ended.numbers;
-        expect_equal(seed, [loads, stores, drops], [1; 3])?;
+        let found = (ended.answer, ended.account, [loads, stores, drops]);
+        expect_equal(seed, found, (Ok(true), ([1, 1, 0, 0, 1], true), [1; 3]))?;
     }
     Ok(())
 }
 
 #[test]
 fn program_without_processors_is_run(rt: HostRuntime) -> Result<(), Fail> {
-    let ended = run_freely(&rt, rt.alloc(), &[], 0, (1, 0))?;
-    expect_equal("record", ended.is_record_of(&[]), true)?;
-    expect_equal("account", numbers_in(&ended.account), ([0; 5], true))?;
-    expect_equal("calls", ended.numbers, [0, 0, 0, 0, 0, 0, 1])
+    let ended = run_freely(&rt, rt.alloc(), &[], issuers_alone(1, Wanted::Rows(&[])))?;
+    let found = (ended.answer, ended.account, ended.numbers);
+    expect_equal(
+        "run",
+        found,
+        (Ok(true), ([0; 5], true), [0, 0, 0, 0, 0, 0, 1]),
+    )
 }
 
 /// Whether the run of `FORWARDED` on this unit, which is in no box, gives a record of these processors, lawful or not, as is
@@ -267,26 +333,33 @@ fn expect_refused<H: Threads + Wait + Sync>(
     refused: u64,
     turns: u16,
 ) -> Result<(), Fail> {
-    let ended = run_freely(rt, alloc, ops, refused, (5, turns))?;
-    let found = (ended.lawful(), ended.account.closed, ended.drops());
+    let free = Free {
+        drain_seed: 5,
+        turns,
+        refused,
+        wanted: Wanted::Lawful,
+    };
+    let ended = run_freely(rt, alloc, ops, free)?;
+    let (_, is_closed) = ended.account;
     expect_equal(
         (refused, turns),
-        found,
+        (ended.answer, is_closed, ended.drops()),
         (Err(RunFault::OutOfMemory), true, 1),
     )
 }
 
 #[test]
 fn refused_calls_end_the_run(rt: HostRuntime) -> Result<(), Fail> {
-    let ended = run_freely(&rt, rt.alloc(), &EACH_KIND, 0, (5, 0))?;
-    expect_equal("lawful", ended.lawful(), Ok(true))?;
+    let mut free = issuers_alone(5, Wanted::Lawful);
+    let ended = run_freely(&rt, rt.alloc(), &EACH_KIND, free)?;
     let calls = calls_of(ended.numbers);
-    expect_equal(calls, calls > 5, true)?;
+    expect_equal(calls, (ended.answer, calls > 5), (Ok(true), true))?;
     for refused in 1..=calls {
         expect_refused(&rt, rt.alloc(), &EACH_KIND, refused, 0)?;
     }
-    let past = run_freely(&rt, rt.alloc(), &EACH_KIND, calls.wrapping_add(1), (5, 0))?;
-    expect_equal("past the last", past.lawful(), Ok(true))
+    free.refused = calls.wrapping_add(1);
+    let past = run_freely(&rt, rt.alloc(), &EACH_KIND, free)?;
+    expect_equal("past the last", past.answer, Ok(true))
 }
 
 /// Three processors without operations.
@@ -346,23 +419,21 @@ fn turns_drain_the_processors_in_order(rt: HostRuntime) -> Result<(), Fail> {
 
 /// Runs `STORES_THEN_LOADS`, once more where it gave no record; the unit is then dropped, and the account closed.
 fn run_again<H: Threads + Wait + Sync>(rt: &H, alloc: Global) -> Result<Ended, Fail> {
-    match run_freely(rt, alloc, &STORES_THEN_LOADS, 0, (3, 0)) {
-        Err(_) => {},
-        Ok(ended) => {
-            if ended.answer.is_ok() {
-                return Ok(ended);
-            }
-            let found = (ended.account.closed, ended.drops());
-            expect_equal("a refused run", found, (true, 1))?;
+    let free = issuers_alone(3, Wanted::Lawful);
+    if let Ok(ended) = run_freely(rt, alloc, &STORES_THEN_LOADS, free) {
+        if ended.answer.is_ok() {
+            return Ok(ended);
         }
+        let (_, is_closed) = ended.account;
+        expect_equal("a refused run", (is_closed, ended.drops()), (true, 1))?;
     }
-    Ok(run_freely(rt, alloc, &STORES_THEN_LOADS, 0, (3, 0))?)
+    Ok(run_freely(rt, alloc, &STORES_THEN_LOADS, free)?)
 }
 
 /// `rt try --test --fail-alloc N` refuses the Nth allocation.
 #[test]
 fn refused_allocations_close_the_account_of_a_run(rt: HostRuntime) -> Result<(), Fail> {
     let ended = run_again(&rt, rt.alloc())?;
-    let found = (ended.lawful(), numbers_in(&ended.account));
+    let found = (ended.answer, ended.account);
     expect_equal("run", found, (Ok(true), ([2, 2, 0, 0, 2], true)))
 }

@@ -97,18 +97,19 @@ impl Driven {
         let mut account = OTHER_ACCOUNT;
         let answer = finish_desk(alloc, desk, &program, &passes, &mut account);
         Ok(Finished {
-            answer,
-            account,
+            answer: answer_of(answer),
+            account: numbers_in(&account),
             drops: drops_of(&counts),
         })
     }
 }
 
-/// How a desk was finished: its answer, the account, and how many units were dropped.
-#[derive(Drop)]
+/// How a desk was finished: whether the record was that of `FINISHED_ROWS`, or the fault; the numbers of the account, and whether it
+/// is closed; and how many units were dropped.
+#[derive(Clone, Copy)]
 struct Finished {
-    answer: Result<Recorded, RunFault>,
-    account: Account,
+    answer: Result<bool, RunFault>,
+    account: ([usize; 5], bool),
     drops: u64,
 }
 
@@ -221,15 +222,23 @@ fn answer_of(answer: Result<Recorded, RunFault>) -> Result<bool, RunFault> {
     }
 }
 
-/// Drives a desk and finishes it; its unit is dropped then, and not before.
-fn expect_case(alloc: Global, case: &Case) -> Result<(), Fail> {
+/// Drives a desk and finishes it: the place of the first wrong answer, how many units were dropped before the end, and how it ended.
+fn drive(alloc: Global, case: &Case) -> Result<(Option<usize>, u64, Finished), ValueFault> {
     let mut driven = Driven::new(alloc, case.refused)?;
-    expect_equal(case.name, driven.first_wrong(case.done)?, None)?;
-    expect_equal(case.name, drops_of(&driven.counts), 0)?;
-    let finished = driven.finish(alloc, case.ops)?;
-    let found = (numbers_in(&finished.account), finished.drops);
-    expect_equal(case.name, found, ((case.account, true), 1))?;
-    expect_equal(case.name, answer_of(finished.answer), case.answer)
+    let wrong = driven.first_wrong(case.done)?;
+    let drops = drops_of(&driven.counts);
+    Ok((wrong, drops, driven.finish(alloc, case.ops)?))
+}
+
+/// The unit of a desk is dropped at its end, and not before.
+fn expect_case(alloc: Global, case: &Case) -> Result<(), Fail> {
+    let (wrong, drops, finished) = drive(alloc, case)?;
+    expect_equal(case.name, (wrong, drops), (None, 0))?;
+    expect_equal(
+        case.name,
+        (finished.answer, finished.account, finished.drops),
+        (case.answer, (case.account, true), 1),
+    )
 }
 
 #[test]

@@ -1,9 +1,9 @@
 //! When the issuers of a run call its gate, and gates at which they wait for each other.
 
 use super::desk_runs::{run_past, threads_at};
-use issue_desk::Gate;
+use issue_desk::{Gate, RunFault};
 use std::alloc::{AllocError, Global};
-use std::sync::atomic::{AtomicBool, AtomicU64, AtomicUsize, Ordering};
+use std::sync::atomic::{AtomicBool, AtomicUsize, Ordering};
 use std::sync::{Arc, Wait};
 use std::test::Fail;
 use std::thread::{Threads, yield_now};
@@ -11,88 +11,48 @@ use traces_for_tests::expect_equal;
 use tso_ops::{Op, ValueFault};
 use units_for_tests::{CallCounts, new_counts};
 
-/// A call of a gate, with the number of loads that the unit had then taken.
+/// A gate of one processor, whose calls have to come before each of its loads.
 #[derive(Drop)]
-struct GateCall {
-    p: AtomicUsize,
-    done: AtomicUsize,
-    loads: AtomicU64,
-}
-
-impl GateCall {
-    fn new() -> GateCall {
-        GateCall {
-            p: AtomicUsize::new(0),
-            done: AtomicUsize::new(0),
-            loads: AtomicU64::new(0),
-        }
-    }
-}
-
-/// A gate that logs its first calls, as many as there is room for.
-#[derive(Drop)]
-struct LoggingGate {
+struct CheckingGate {
     counts: Arc<CallCounts, Global>,
-    taken: AtomicUsize,
-    places: Vec<GateCall>,
+    calls: AtomicUsize,
+    is_wrong: AtomicBool,
 }
 
-impl Gate for LoggingGate {
+impl Gate for CheckingGate {
     fn before(&self, p: usize, done: usize) {
-        let place = self.taken.fetch_add(1, Ordering::SeqCst);
-        if let Some(call) = self.places.get(place) {
-            call.p.store(p, Ordering::SeqCst);
-            call.done.store(done, Ordering::SeqCst);
-            let loads = self.counts.loads.load(Ordering::SeqCst);
-            call.loads.store(loads, Ordering::SeqCst);
+        let calls = self.calls.fetch_add(1, Ordering::SeqCst);
+        let loads = self.counts.loads.load(Ordering::SeqCst);
+        if p != 0 || done != calls || loads != calls as u64 {
+            self.is_wrong.store(true, Ordering::SeqCst);
         }
-    }
-}
-
-impl LoggingGate {
-    fn new(
-        alloc: Global,
-        counts: Arc<CallCounts, Global>,
-        room: usize,
-    ) -> Result<LoggingGate, AllocError> {
-        let mut places = Vec::new(alloc);
-        for _ in 0..room {
-            places.push(GateCall::new())?;
-        }
-        Ok(LoggingGate {
-            counts,
-            taken: AtomicUsize::new(0),
-            places,
-        })
-    }
-
-    /// The processor, the answers and the loads of each call.
-    fn calls(&self, alloc: Global) -> Result<Vec<(usize, usize, u64)>, AllocError> {
-        let mut calls = Vec::new(alloc);
-        for call in self.places.iter().take(self.taken.load(Ordering::SeqCst)) {
-            let p = call.p.load(Ordering::SeqCst);
-            let done = call.done.load(Ordering::SeqCst);
-            calls.push((p, done, call.loads.load(Ordering::SeqCst)))?;
-        }
-        Ok(calls)
     }
 }
 
 const LOAD: Op = Op::Ld { a: 1 };
 
-/// The processor, the answers and the loads of each call of the gate by three loads.
-const GATE_CALLS: [(usize, usize, u64); 4] = [(0, 0, 0), (0, 1, 1), (0, 2, 2), (0, 3, 3)];
+/// Whether three loads give a lawful record, how often they call the gate, and whether a call was a wrong one.
+fn gate_calls<H: Threads + Wait + Sync>(
+    rt: &H,
+    alloc: Global,
+) -> Result<(Result<bool, RunFault>, usize, bool), ValueFault> {
+    let counts = new_counts(alloc)?;
+    let gate = CheckingGate {
+        counts: Arc::try_clone(&counts)?,
+        calls: AtomicUsize::new(0),
+        is_wrong: AtomicBool::new(false),
+    };
+    let threads = threads_at(&gate, 1, 0);
+    let ended = run_past(rt, alloc, &[&[LOAD; 3]], threads, &counts)?;
+    let calls = gate.calls.load(Ordering::SeqCst);
+    Ok((ended.answer, calls, gate.is_wrong.load(Ordering::SeqCst)))
+}
 
 /// The call with three answers comes before the issue that finds nothing left.
 #[test]
 fn gate_is_called_before_each_operation(rt: HostRuntime) -> Result<(), Fail> {
-    let counts = new_counts(rt.alloc())?;
-    let gate = LoggingGate::new(rt.alloc(), Arc::try_clone(&counts)?, 8)?;
-    let threads = threads_at(&gate, 1, 0);
-    let ended = run_past(&rt, rt.alloc(), &[&[LOAD; 3]], threads, &counts)?;
-    expect_equal("lawful", ended.lawful(), Ok(true))?;
-    let calls = gate.calls(rt.alloc())?;
-    expect_equal("calls", calls.as_slice(), GATE_CALLS.as_slice())
+    let found = gate_calls(&rt, rt.alloc())?;
+    expect_equal("calls of the gate", found, (Ok(true), 4, false))
 }
 
 /// How often an issuer looks for the others.
@@ -167,7 +127,7 @@ fn meet<H: Threads + Wait + Sync>(
     let gate = MeetingGate::new(alloc, ops.len(), at)?;
     let threads = threads_at(&gate, 1, 0);
     let ended = run_past(rt, alloc, ops, threads, &new_counts(alloc)?)?;
-    Ok(ended.lawful() == Ok(true) && gate.have_met())
+    Ok(ended.answer == Ok(true) && gate.have_met())
 }
 
 /// Two loads of each of two processors, and a load of each of sixteen; the last calls come before the issues that find

@@ -3,7 +3,6 @@
 //! The call that meets it answers OutOfMemory, and the next call the ordinary answer.
 
 use super::runs::{BUFFERING, Way, counted_unit, numbers_in, run_on};
-use super::units::{Made, unit_of};
 use std::alloc::Global;
 use std::sync::Arc;
 use std::sync::atomic::Ordering;
@@ -12,6 +11,7 @@ use traces_for_tests::{expect_equal, program_of};
 use tso_ops::Act::{Drain, Issue};
 use tso_ops::{Order, OutOfMemory, Program, ValueFault};
 use unit_core::{Account, MemoryUnit, Step};
+use unit_kinds::{PartialOrderUnit, StoreBufferUnit};
 use units_for_tests::{CallCounts, drops_of, new_counts};
 
 /// Makes a call of the kind of this number on processor 0.
@@ -65,33 +65,50 @@ fn refused_calls(
     Ok((steps, last_load(&mut unit)?))
 }
 
-fn unit_again(alloc: Global, made: Made) -> Result<Box<dyn MemoryUnit + Send>, OutOfMemory> {
-    match unit_of(alloc, made) {
+/// A lawful unit with buffers.
+#[derive(Clone, Copy)]
+enum Buffers {
+    /// Of TSO: each processor's stores leave in order.
+    InOrder,
+    /// Of PSO: those to each address do.
+    PerAddress,
+}
+
+/// A unit of this kind with the largest buffers, in a box.
+fn unit_of(alloc: Global, buffers: Buffers) -> Result<Box<dyn MemoryUnit + Send>, OutOfMemory> {
+    match buffers {
+        Buffers::InOrder => Ok(Box::new(alloc, StoreBufferUnit::new(alloc, 64)?)?),
+        Buffers::PerAddress => Ok(Box::new(alloc, PartialOrderUnit::new(alloc, 64)?)?),
+    }
+}
+
+fn unit_again(alloc: Global, buffers: Buffers) -> Result<Box<dyn MemoryUnit + Send>, OutOfMemory> {
+    match unit_of(alloc, buffers) {
         Ok(unit) => Ok(unit),
-        Err(OutOfMemory) => unit_of(alloc, made),
+        Err(OutOfMemory) => unit_of(alloc, buffers),
     }
 }
 
 /// A unit, a kind of call, the steps of 16 stores and eight calls of it, and what memory has at last.
-static CALLS: [(Made, u8, usize, u64); 12] = [
-    (Made::Buffer(64), 0, 24, 0),
-    (Made::Buffer(64), 1, 24, 0),
-    (Made::Buffer(64), 2, 40, 6),
-    (Made::Buffer(64), 3, 40, 5),
-    (Made::Buffer(64), 4, 24, 0),
-    (Made::Buffer(64), 5, 24, 5),
-    (Made::Partial(64), 0, 24, 0),
-    (Made::Partial(64), 1, 24, 0),
-    (Made::Partial(64), 2, 40, 6),
-    (Made::Partial(64), 3, 40, 5),
-    (Made::Partial(64), 4, 24, 0),
-    (Made::Partial(64), 5, 24, 5),
+static CALLS: [(Buffers, u8, usize, u64); 12] = [
+    (Buffers::InOrder, 0, 24, 0),
+    (Buffers::InOrder, 1, 24, 0),
+    (Buffers::InOrder, 2, 40, 6),
+    (Buffers::InOrder, 3, 40, 5),
+    (Buffers::InOrder, 4, 24, 0),
+    (Buffers::InOrder, 5, 24, 5),
+    (Buffers::PerAddress, 0, 24, 0),
+    (Buffers::PerAddress, 1, 24, 0),
+    (Buffers::PerAddress, 2, 40, 6),
+    (Buffers::PerAddress, 3, 40, 5),
+    (Buffers::PerAddress, 4, 24, 0),
+    (Buffers::PerAddress, 5, 24, 5),
 ];
 
 #[test]
 fn refused_allocations_of_calls(rt: HostRuntime) -> Result<(), Fail> {
-    for (made, kind, steps, r) in &CALLS {
-        let found = refused_calls(unit_again(rt.alloc(), *made)?, *kind)?;
+    for (buffers, kind, steps, r) in &CALLS {
+        let found = refused_calls(unit_again(rt.alloc(), *buffers)?, *kind)?;
         let load = Step::Load { p: 1, a: 1, r: *r };
         expect_equal(*kind, found, (*steps, Some(load)))?;
     }

@@ -3,11 +3,8 @@
 
 ghost use Rattle.std.specs.Prelude.{◌≡◌, [], IfOk};
 
-mod given;
 mod on_counted_units;
 
-use super::units::{Made, unit_of};
-use given::RUNS;
 use on_counted_units::COUNTED;
 use std::alloc::Global;
 use std::sync::Arc;
@@ -15,7 +12,6 @@ use std::test::Fail;
 use traces_for_tests::{expect_equal, program_of};
 use tso_ops::Act::{self, Drain, Issue};
 use tso_ops::{Op, Order, OutOfMemory, Program, ValueFault};
-use tso_text::{print_trace, read_program};
 use unit_core::{Account, MemoryUnit, Recorded, conclude, replay, replay_over};
 use unit_kinds::{SerialUnit, StoreBufferUnit};
 use units_for_tests::{
@@ -52,19 +48,6 @@ pub(super) fn run_on(
     }
 }
 
-/// A unit and a way to run a program on it; the texts of the program and of the trace that is recorded, whether the record is
-/// lawful, and the loads, stores, swaps, membars and drains of the account.
-#[derive(Clone, Copy)]
-struct Run {
-    name: &'static str,
-    made: Made,
-    way: Way,
-    program: &'static str,
-    trace: &'static str,
-    lawful: bool,
-    account: [usize; 5],
-}
-
 /// The numbers of an account, and whether it is closed.
 pub(super) fn numbers_in(account: &Account) -> ([usize; 5], bool) {
     let numbers = [
@@ -75,26 +58,6 @@ pub(super) fn numbers_in(account: &Account) -> ([usize; 5], bool) {
         account.drains,
     ];
     (numbers, account.closed)
-}
-
-/// Compares the record and the account of a run.
-fn expect_run(alloc: Global, given: &Run) -> Result<(), Fail> {
-    let program = read_program(alloc, given.program.as_bytes())?;
-    let mut account = OTHER_ACCOUNT;
-    let unit = unit_of(alloc, given.made)?;
-    let recorded = run_on(alloc, given.way, unit, &program, &mut account)?;
-    let trace = print_trace(alloc, recorded.trace())?;
-    expect_equal(given.name, trace.as_str(), given.trace)?;
-    expect_equal(given.name, recorded.lawful(), given.lawful)?;
-    expect_equal(given.name, numbers_in(&account), (given.account, true))
-}
-
-#[test]
-fn runs_of_programs(rt: HostRuntime) -> Result<(), Fail> {
-    for run in &RUNS {
-        expect_run(rt.alloc(), run)?;
-    }
-    Ok(())
 }
 
 /// Two processors that store, and load from the other's address; the first swaps too.
@@ -217,7 +180,15 @@ static SCHEDULED: [&[Op]; 2] = [
     ],
 ];
 
-static SCHEDULED_ACTS: [Act; 6] = [Issue(1), Drain(1), Issue(0), Drain(5), Issue(1), Issue(7)];
+/// Acts of missing processors call nothing.
+static SCHEDULED_ACTS: [Act; 6] = [
+    Issue(1),
+    Drain(1),
+    Issue(0),
+    Drain(16),
+    Issue(1),
+    Issue(usize::MAX),
+];
 
 static SCHEDULED_CALLS: [Call; 9] = [
     Call::Swap,

@@ -6,6 +6,7 @@ ghost use Rattle.request_serving.specs.Printing.{unit_of};
 ghost use Rattle.trace_judging.specs.WrittenReports.{WritesWhole};
 
 use crate::endings::{REFUSED, status_of};
+use crate::hints::{SEEDS_LIMITS, SHAPE_LIMITS};
 use crate::serving::making::{SHAPE_REFUSAL, asked_shape};
 use crate::units::make_units;
 use command_line::CampaignOptions;
@@ -59,6 +60,14 @@ fn campaign_printing_of(traces: bool) -> CampaignPrinting
         CampaignPrinting::Traces
     } else {
         CampaignPrinting::Lines
+    }
+}
+
+/// The limits that are told where these options are refused: those of the shape, or else of the seeds.
+pub(crate) fn limits_of(options: &CampaignOptions) -> &'static str {
+    match asked_shape(options.shape) {
+        None => SHAPE_LIMITS,
+        Some(_) => SEEDS_LIMITS,
     }
 }
 

@@ -1,8 +1,6 @@
 //! Runs of a program of sixteen processors with sixty operations each.
 
-use super::super::runs::numbers_in;
-use super::{run_counted, threads_at};
-use issue_desk::OpenGate;
+use super::{Wanted, issuers_alone, run_program};
 use std::alloc::{AllocError, Global};
 use std::sync::Wait;
 use std::test::Fail;
@@ -10,7 +8,6 @@ use std::thread::Threads;
 use traces_for_tests::expect_equal;
 use tso_ops::{Op, Order, Outcome, Program, ValueFault};
 use unit_core::Recorded;
-use units_for_tests::new_counts;
 
 /// Operation `k` of processor `p`, whose stored value is no other's.
 fn counted_op(p: u64, k: u64) -> Op {
@@ -53,7 +50,7 @@ fn are_outcomes_of(outcomes: &[Outcome], ops: &[Op]) -> bool {
 }
 
 /// Whether the record is lawful and has all operations of the program, and no others.
-fn is_whole(recorded: &Recorded, program: &Program) -> bool {
+pub(super) fn is_whole(recorded: &Recorded, program: &Program) -> bool {
     let trace = recorded.trace();
     let processors = trace.processors();
     if processors != program.processors() {
@@ -74,15 +71,10 @@ fn expect_large<H: Threads + Wait + Sync>(
     program: &Program,
     seed: u64,
 ) -> Result<(), Fail> {
-    let threads = threads_at(&OpenGate, seed, 0);
-    let ended = run_counted(rt, alloc, program, 0, threads, &new_counts(alloc)?)?;
-    let is_so = match &ended.answer {
-        Ok(recorded) => is_whole(recorded, program),
-        Err(_) => false,
-    };
-    expect_equal(seed, is_so, true)?;
+    let free = issuers_alone(seed, Wanted::All(program));
+    let ended = run_program(rt, alloc, program, free)?;
     let account = ([320, 320, 160, 160, 320], true);
-    expect_equal(seed, numbers_in(&ended.account), account)
+    expect_equal(seed, (ended.answer, ended.account), (Ok(true), account))
 }
 
 #[test]

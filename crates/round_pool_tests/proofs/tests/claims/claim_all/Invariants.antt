@@ -1,5 +1,0 @@
-use Rattle.round_pool.specs.Claims.{IsOf}
-use Rattle.round_pool_tests.proofs.tests.claims.claim_all.Given as goal
-
-abbrev pub invariant-loop-claimed : goal.invariant-loop-claimed
-invariant-loop-claimed l = IsOf l.claims l.claimant

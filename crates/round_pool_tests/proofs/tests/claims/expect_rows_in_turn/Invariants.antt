@@ -1,6 +1,0 @@
-use Rattle.std.proofs.Common.{◌≡◌, length, All}
-use Rattle.round_pool.specs.Claims.{IsOf}
-use Rattle.round_pool_tests.proofs.tests.claims.expect_rows_in_turn.Given as goal
-
-abbrev pub invariant-loop-k : goal.invariant-loop-k
-invariant-loop-k g l = All (IsOf l.claims) l.claimants × (length l.claimants ≡ length l.initial.claimants)
