@@ -269,7 +269,8 @@ fn run_forwarded(rt: HostRuntime) -> Result<(), Fail> {
 #[test]
 fn program_without_processors_is_run(rt: HostRuntime) -> Result<(), Fail> {
     let ended = run_freely(&rt, rt.alloc(), &[], issuers_alone(1, Wanted::Rows(&[])))?;
-    let found = (ended.answer, ended.account, ended.numbers);
+    let numbers = ended.numbers;
+    let found = (ended.answer, ended.account, numbers);
     expect_equal(
         "run",
         found,
