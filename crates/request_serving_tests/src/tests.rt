@@ -1,13 +1,12 @@
 //! Requests over files in memory, from the arguments on, and what else the tests of this crate share.
 
+mod calls;
 mod checks;
 mod decisions;
-mod diagnostics;
 mod endings;
 mod logs;
 mod refused_allocations;
 mod replays;
-mod threads;
 mod traces;
 
 use command_line::Notes;
@@ -43,6 +42,16 @@ impl Read for Input {
 struct Output {
     taken: Vec<u8>,
     fails: bool,
+}
+
+impl Output {
+    /// One that takes so many bytes without an allocation, and then more.
+    fn with_room(alloc: Global, room: usize) -> Result<Output, AllocError> {
+        Ok(Output {
+            taken: Vec::with_capacity(alloc, room)?,
+            fails: false,
+        })
+    }
 }
 
 impl Write for Output {

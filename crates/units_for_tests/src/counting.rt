@@ -3,8 +3,12 @@ ghost use Rattle.std.specs.Prelude.{◌≡◌};
 use std::alloc::Global;
 use std::sync::Arc;
 use std::sync::atomic::{AtomicU64, Ordering};
+use std::thread::yield_now;
 use tso_ops::OutOfMemory;
 use unit_core::{MemoryUnit, Step};
+
+/// How often the first call of a unit looks for that of another.
+const LOOKS: u64 = 100_000;
 
 /// How often a unit was called, and how often one was dropped.
 #[derive(Drop)]
@@ -23,6 +27,10 @@ pub struct CallCounts {
     pub drains: AtomicU64,
     /// Units that were dropped.
     pub drops: AtomicU64,
+    /// First calls that waited for one another.
+    first_calls: AtomicU64,
+    /// First calls that another came to meet.
+    meetings: AtomicU64,
 }
 
 impl CallCounts {
@@ -36,7 +44,26 @@ impl CallCounts {
             stbars: AtomicU64::new(0),
             drains: AtomicU64::new(0),
             drops: AtomicU64::new(0),
+            first_calls: AtomicU64::new(0),
+            meetings: AtomicU64::new(0),
         }
+    }
+
+    /// Says that a unit was called for the first time, and waits for the first call of another.
+    fn meet(&self) {
+        self.first_calls.fetch_add(1, Ordering::SeqCst);
+        for _ in 0..LOOKS {
+            if self.first_calls.load(Ordering::SeqCst) > 1 {
+                self.meetings.fetch_add(1, Ordering::SeqCst);
+                return;
+            }
+            yield_now();
+        }
+    }
+
+    /// Whether the first calls of two units waited, and each for the other.
+    pub fn have_met(&self) -> bool {
+        self.first_calls.load(Ordering::SeqCst) == 2 && self.meetings.load(Ordering::SeqCst) == 2
     }
 }
 
@@ -67,6 +94,8 @@ pub fn numbers_of(counts: &CallCounts) -> [u64; 7] {
 pub struct CountingUnit<U> {
     inner: U,
     counts: Arc<CallCounts, Global>,
+    /// Whether its next load, store, swap or barrier waits for the first of another unit with these counts.
+    waits: bool,
 }
 
 impl<U: MemoryUnit> CountingUnit<U> {
@@ -74,7 +103,32 @@ impl<U: MemoryUnit> CountingUnit<U> {
     pub fn new(inner: U, counts: Arc<CallCounts, Global>) -> CountingUnit<U>
         ensures { ⟦<CountingUnit<U> as MemoryUnit>⟧.value_of result ≡ U.value_of inner }
     {
-        CountingUnit { inner, counts }
+        CountingUnit {
+            inner,
+            counts,
+            waits: false,
+        }
+    }
+
+    /// One whose first load, store, swap or membar waits for that of another such unit with these counts.
+    pub fn waiting(inner: U, counts: Arc<CallCounts, Global>) -> CountingUnit<U>
+        ensures { ⟦<CountingUnit<U> as MemoryUnit>⟧.value_of result ≡ U.value_of inner }
+    {
+        CountingUnit {
+            inner,
+            counts,
+            waits: true,
+        }
+    }
+
+    /// Waits for the other unit, where it is to wait.
+    fn arrive(&mut self)
+        ensures { self.new.inner ≡ self.old.inner }
+    {
+        if self.waits {
+            self.waits = false;
+            self.counts.meet();
+        }
     }
 }
 
@@ -84,6 +138,7 @@ impl<U: Drop> Drop for CountingUnit<U> {
         let CountingUnit {
             inner: _,
             counts: _,
+            waits: _,
         } = self;
     }
 }
@@ -93,21 +148,25 @@ impl<U: MemoryUnit> MemoryUnit for CountingUnit<U> {
 
     fn load(&mut self, p: usize, a: u16) -> Result<u64, OutOfMemory> {
         self.counts.loads.fetch_add(1, Ordering::SeqCst);
+        self.arrive();
         self.inner.load(p, a)
     }
 
     fn store(&mut self, p: usize, a: u16, v: u64) -> Result<(), OutOfMemory> {
         self.counts.stores.fetch_add(1, Ordering::SeqCst);
+        self.arrive();
         self.inner.store(p, a, v)
     }
 
     fn swap(&mut self, p: usize, a: u16, v: u64) -> Result<u64, OutOfMemory> {
         self.counts.swaps.fetch_add(1, Ordering::SeqCst);
+        self.arrive();
         self.inner.swap(p, a, v)
     }
 
     fn membar(&mut self, p: usize) -> Result<(), OutOfMemory> {
         self.counts.membars.fetch_add(1, Ordering::SeqCst);
+        self.arrive();
         self.inner.membar(p)
     }
 

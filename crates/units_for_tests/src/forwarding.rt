@@ -23,56 +23,46 @@ pub enum Call {
     Drain = 6,
 }
 
-/// Room for a call and its processor.
-#[derive(Drop)]
-struct Place {
-    /// The number of the call, or 0.
-    call: AtomicU64,
-    processor: AtomicUsize,
-}
-
-impl Place {
-    fn new() -> Place {
-        Place {
-            call: AtomicU64::new(0),
-            processor: AtomicUsize::new(0),
-        }
-    }
-}
-
 /// The first calls of a unit with their processors, in their order, as many as there is room for.
 #[derive(Drop)]
 pub struct CallLog {
     taken: AtomicUsize,
-    places: Vec<Place>,
+    /// The number of each call, or 0 where none came.
+    calls: Vec<AtomicU64>,
+    processors: Vec<AtomicUsize>,
 }
 
 impl CallLog {
     /// No call, with room for so many, or OutOfMemory where an allocation was refused.
     pub fn new(alloc: Global, room: usize) -> Result<CallLog, OutOfMemory> {
-        let mut places = Vec::new(alloc);
+        let (mut calls, mut processors) = (Vec::new(alloc), Vec::new(alloc));
         for _ in 0..room {
-            places.push(Place::new())?;
+            calls.push(AtomicU64::new(0))?;
+            processors.push(AtomicUsize::new(0))?;
         }
         Ok(CallLog {
             taken: AtomicUsize::new(0),
-            places,
+            calls,
+            processors,
         })
     }
 
     fn push(&self, call: Call, p: usize) {
         let taken = self.taken.fetch_add(1, Ordering::SeqCst);
-        if let Some(place) = self.places.get(taken) {
-            place.processor.store(p, Ordering::SeqCst);
-            place.call.store(call as u64, Ordering::SeqCst);
+        if let (Some(number), Some(processor)) = (
+            self.calls.get(taken),
+            self.processors.get(taken),
+        ) {
+            processor.store(p, Ordering::SeqCst);
+            number.store(call as u64, Ordering::SeqCst);
         }
     }
 
     /// The calls, or OutOfMemory where an allocation was refused.
     pub fn calls(&self, alloc: Global) -> Result<Vec<Call>, OutOfMemory> {
         let mut calls = Vec::new(alloc);
-        for place in &self.places {
-            match place.call.load(Ordering::SeqCst) {
+        for number in &self.calls {
+            match number.load(Ordering::SeqCst) {
                 1 => calls.push(Call::Load)?,
                 2 => calls.push(Call::Store)?,
                 3 => calls.push(Call::Swap)?,
@@ -88,8 +78,12 @@ impl CallLog {
     /// The processor of each call, or OutOfMemory where an allocation was refused.
     pub fn processors(&self, alloc: Global) -> Result<Vec<usize>, OutOfMemory> {
         let mut processors = Vec::new(alloc);
-        for place in self.places.iter().take(self.taken.load(Ordering::SeqCst)) {
-            processors.push(place.processor.load(Ordering::SeqCst))?;
+        for processor in self
+            .processors
+            .iter()
+            .take(self.taken.load(Ordering::SeqCst))
+        {
+            processors.push(processor.load(Ordering::SeqCst))?;
         }
         Ok(processors)
     }

@@ -2,7 +2,7 @@ use crate::counting::CallCounts;
 use issue_desk::Gate;
 use std::alloc::Global;
 use std::sync::Arc;
-use std::sync::atomic::{AtomicBool, AtomicU64, Ordering};
+use std::sync::atomic::{AtomicU64, Ordering};
 use std::thread::yield_now;
 
 /// How often an issuer looks for a drain.
@@ -12,8 +12,9 @@ const LOOKS: u64 = 100_000;
 #[derive(Drop)]
 pub struct AfterDrain {
     counts: Arc<CallCounts, Global>,
-    has_seen_a_drain: AtomicBool,
-    gave_up: AtomicBool,
+    /// How many calls saw a drain, and how many gave up.
+    saw: AtomicU64,
+    gave_up: AtomicU64,
     drains: AtomicU64,
 }
 
@@ -34,8 +35,8 @@ impl AfterDrain {
     pub fn new(counts: Arc<CallCounts, Global>) -> AfterDrain {
         AfterDrain {
             counts,
-            has_seen_a_drain: AtomicBool::new(false),
-            gave_up: AtomicBool::new(false),
+            saw: AtomicU64::new(0),
+            gave_up: AtomicU64::new(0),
             drains: AtomicU64::new(0),
         }
     }
@@ -43,17 +44,17 @@ impl AfterDrain {
     fn wait_for_drain(&self) {
         for _ in 0..LOOKS {
             if self.counts.drains.load(Ordering::SeqCst) > 0 {
-                self.has_seen_a_drain.store(true, Ordering::SeqCst);
+                self.saw.fetch_add(1, Ordering::SeqCst);
                 return;
             }
             yield_now();
         }
-        self.gave_up.store(true, Ordering::SeqCst);
+        self.gave_up.fetch_add(1, Ordering::SeqCst);
     }
 
     /// Whether an issuer waited until a drain came, and none gave up.
     pub fn has_waited(&self) -> bool {
-        self.has_seen_a_drain.load(Ordering::SeqCst) && !self.gave_up.load(Ordering::SeqCst)
+        self.saw.load(Ordering::SeqCst) > 0 && self.gave_up.load(Ordering::SeqCst) == 0
     }
 
     /// How many drains had come when processor 0 had done one operation.

@@ -5,7 +5,6 @@ pub mod answers;
 pub mod checkers;
 pub mod engines;
 pub mod generic;
-pub mod program;
 pub mod texts;
 pub mod theorems;
 pub mod units;

@@ -3,7 +3,7 @@
 use super::desk_runs::{run_past, threads_at};
 use issue_desk::{Gate, RunFault};
 use std::alloc::{AllocError, Global};
-use std::sync::atomic::{AtomicBool, AtomicUsize, Ordering};
+use std::sync::atomic::{AtomicUsize, Ordering};
 use std::sync::{Arc, Wait};
 use std::test::Fail;
 use std::thread::{Threads, yield_now};
@@ -16,7 +16,7 @@ use units_for_tests::{CallCounts, new_counts};
 struct CheckingGate {
     counts: Arc<CallCounts, Global>,
     calls: AtomicUsize,
-    is_wrong: AtomicBool,
+    wrong: AtomicUsize,
 }
 
 impl Gate for CheckingGate {
@@ -24,35 +24,35 @@ impl Gate for CheckingGate {
         let calls = self.calls.fetch_add(1, Ordering::SeqCst);
         let loads = self.counts.loads.load(Ordering::SeqCst);
         if p != 0 || done != calls || loads != calls as u64 {
-            self.is_wrong.store(true, Ordering::SeqCst);
+            self.wrong.fetch_add(1, Ordering::SeqCst);
         }
     }
 }
 
 const LOAD: Op = Op::Ld { a: 1 };
 
-/// Whether three loads give a lawful record, how often they call the gate, and whether a call was a wrong one.
+/// Whether three loads give a lawful record, how often they call the gate, and how many of these calls were wrong ones.
 fn gate_calls<H: Threads + Wait + Sync>(
     rt: &H,
     alloc: Global,
-) -> Result<(Result<bool, RunFault>, usize, bool), ValueFault> {
+) -> Result<(Result<bool, RunFault>, usize, usize), ValueFault> {
     let counts = new_counts(alloc)?;
     let gate = CheckingGate {
         counts: Arc::try_clone(&counts)?,
         calls: AtomicUsize::new(0),
-        is_wrong: AtomicBool::new(false),
+        wrong: AtomicUsize::new(0),
     };
     let threads = threads_at(&gate, 1, 0);
     let ended = run_past(rt, alloc, &[&[LOAD; 3]], threads, &counts)?;
     let calls = gate.calls.load(Ordering::SeqCst);
-    Ok((ended.answer, calls, gate.is_wrong.load(Ordering::SeqCst)))
+    Ok((ended.answer, calls, gate.wrong.load(Ordering::SeqCst)))
 }
 
 /// The call with three answers comes before the issue that finds nothing left.
 #[test]
 fn gate_is_called_before_each_operation(rt: HostRuntime) -> Result<(), Fail> {
     let found = gate_calls(&rt, rt.alloc())?;
-    expect_equal("calls of the gate", found, (Ok(true), 4, false))
+    expect_equal("calls of the gate", found, (Ok(true), 4, 0))
 }
 
 /// How often an issuer looks for the others.
@@ -62,16 +62,16 @@ const TURNS: u64 = 4_000_000;
 #[derive(Drop)]
 pub(super) struct MeetingGate {
     at: usize,
-    /// Whether the call of each processor came.
-    came: Vec<AtomicBool>,
-    gave_up: AtomicBool,
+    /// How often the call of each processor came.
+    came: Vec<AtomicUsize>,
+    gave_up: AtomicUsize,
 }
 
 impl Gate for MeetingGate {
     fn before(&self, p: usize, done: usize) {
         if done == self.at {
             if let Some(own) = self.came.get(p) {
-                own.store(true, Ordering::SeqCst);
+                own.fetch_add(1, Ordering::SeqCst);
             }
             self.wait_for_all();
         }
@@ -87,33 +87,38 @@ impl MeetingGate {
     ) -> Result<MeetingGate, AllocError> {
         let mut came = Vec::new(alloc);
         for _ in 0..processors {
-            came.push(AtomicBool::new(false))?;
+            came.push(AtomicUsize::new(0))?;
         }
         Ok(MeetingGate {
             at,
             came,
-            gave_up: AtomicBool::new(false),
+            gave_up: AtomicUsize::new(0),
         })
     }
 
     /// Whether the call of each processor came.
     fn have_come(&self) -> bool {
-        self.came.iter().all(|one| one.load(Ordering::SeqCst))
+        self.came.iter().all(|one| one.load(Ordering::SeqCst) > 0)
+    }
+
+    /// Whether a call gave up.
+    fn has_given_up(&self) -> bool {
+        self.gave_up.load(Ordering::SeqCst) > 0
     }
 
     fn wait_for_all(&self) {
         for _ in 0..TURNS {
-            if self.have_come() || self.gave_up.load(Ordering::SeqCst) {
+            if self.have_come() || self.has_given_up() {
                 return;
             }
             yield_now();
         }
-        self.gave_up.store(true, Ordering::SeqCst);
+        self.gave_up.fetch_add(1, Ordering::SeqCst);
     }
 
     /// Whether all calls came, and none gave up.
     pub(super) fn have_met(&self) -> bool {
-        self.have_come() && !self.gave_up.load(Ordering::SeqCst)
+        self.have_come() && !self.has_given_up()
     }
 }
 

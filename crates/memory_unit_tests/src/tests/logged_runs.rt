@@ -7,7 +7,7 @@
 use super::desk_runs::threads_at;
 use issue_desk::{Gate, OpenGate, RunThreads, run_over};
 use std::alloc::{AllocError, Global};
-use std::sync::atomic::{AtomicBool, Ordering};
+use std::sync::atomic::{AtomicUsize, Ordering};
 use std::sync::{Arc, Wait};
 use std::test::Fail;
 use std::thread::{Threads, yield_now};
@@ -96,24 +96,25 @@ const TURNS: u64 = 20_000;
 #[derive(Drop)]
 struct Behind {
     done: usize,
-    is_reached: AtomicBool,
+    /// How often it has.
+    reached: AtomicUsize,
 }
 
 impl Gate for Behind {
     fn before(&self, p: usize, done: usize) {
         if p == 0 && done == self.done {
-            self.is_reached.store(true, Ordering::SeqCst);
+            self.reached.fetch_add(1, Ordering::SeqCst);
         }
         if p == 1 && done == 0 {
-            wait_for(&self.is_reached);
+            wait_for(&self.reached);
         }
     }
 }
 
-/// Yields until this was set, up to `TURNS` times.
-fn wait_for(set: &AtomicBool) {
+/// Yields until this is more than 0, up to `TURNS` times.
+fn wait_for(reached: &AtomicUsize) {
     for _ in 0..TURNS {
-        if set.load(Ordering::SeqCst) {
+        if reached.load(Ordering::SeqCst) > 0 {
             return;
         }
         yield_now();
@@ -159,7 +160,7 @@ fn is_seen<H: Threads + Wait + Sync>(
     for run in 0..RUNS {
         let behind = Behind {
             done: run % 16,
-            is_reached: AtomicBool::new(false),
+            reached: AtomicUsize::new(0),
         };
         let calls = calls_of(rt, alloc, program, &behind, DRAINS_OF_0)?;
         if has_before_a_store(&calls, three) {

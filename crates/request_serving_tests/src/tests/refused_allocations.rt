@@ -4,10 +4,10 @@
 //! nothing else, and the next call gives the ordinary answer.
 
 use super::logs::REPORT as LOGGED;
-use super::{MESSAGE_PASSING, MemoryFiles};
+use super::{Input, MESSAGE_PASSING, MemoryFiles, Output};
 use command_line::{LogForm, LogOptions, LogRequest, Request};
 use request_serving::serve;
-use std::alloc::Global;
+use std::alloc::{AllocError, Global};
 use std::sync::Wait;
 use std::test::Fail;
 use std::thread::Threads;
@@ -36,7 +36,7 @@ const ACCOUNT: Account = Account {
     closed: true,
 };
 
-/// The room that a report gets.
+/// More room than a report needs.
 const ROOM: usize = 256;
 
 /// A replay on a serial unit.
@@ -61,25 +61,31 @@ fn refused_allocations_of_a_replay(rt: HostRuntime) -> Result<(), Fail> {
         Err(OutOfMemory) => replayed(alloc, &program, &mut account)?,
     };
     assert!(rt; account == ACCOUNT);
-    let mut bytes = [0u8; ROOM];
-    let mut writer = bytes.as_mut_slice();
-    let mut said = judge_recorded(&rt, alloc, &recorded, &mut writer, 1);
+    let mut output = output_of(alloc)?;
+    let mut said = judge_recorded(&rt, alloc, &recorded, &mut output, 1);
     if said == Err(Fault::OutOfMemory) || said == Err(Fault::NoThread) {
-        assert!(rt; writer.len() == ROOM);
-        said = judge_recorded(&rt, alloc, &recorded, &mut writer, 1);
+        assert!(rt; output.taken.is_empty());
+        said = judge_recorded(&rt, alloc, &recorded, &mut output, 1);
     }
     assert!(rt; said == Ok(Verdict::NoViolation));
-    let written = ROOM.saturating_sub(writer.len());
-    assert!(rt; &bytes[..written] == REPORT.as_bytes());
+    assert!(rt; output.taken.as_slice() == REPORT.as_bytes());
     Ok(())
 }
 
-/// Reports on the log on standard input into these bytes: the status, and how much of their room is left.
-fn logged_into<H: Threads + Wait + Sync + AllocGlobal>(
+/// A writer that needs no allocation for a report.
+fn output_of(alloc: Global) -> Result<Output, AllocError> {
+    match Output::with_room(alloc, ROOM) {
+        Ok(output) => Ok(output),
+        Err(_) => Output::with_room(alloc, ROOM),
+    }
+}
+
+/// Reports on the log on standard input, and answers the status.
+fn serve_log<H: Threads + Wait + Sync + AllocGlobal>(
     rt: &H,
-    output: &mut [u8; ROOM],
-    errors: &mut [u8; ROOM],
-) -> (u8, usize, usize) {
+    output: &mut Output,
+    errors: &mut Output,
+) -> u8 {
     let request = Request::Log(LogRequest {
         file: None,
         options: LogOptions {
@@ -93,34 +99,25 @@ fn logged_into<H: Threads + Wait + Sync + AllocGlobal>(
     let mut files = MemoryFiles {
         opened: String::new(rt.alloc()),
     };
-    let mut reader = MESSAGE_PASSING.as_bytes();
-    let mut writer = output.as_mut_slice();
-    let mut told = errors.as_mut_slice();
-    let status = serve(
-        rt,
-        &request,
-        &mut files,
-        &mut reader,
-        &mut writer,
-        &mut told,
-    );
-    (status, writer.len(), told.len())
+    let mut reader = Input {
+        rest: MESSAGE_PASSING.as_bytes(),
+        fails: false,
+    };
+    serve(rt, &request, &mut files, &mut reader, output, errors)
 }
 
 /// The request that meets a refused allocation names the fault; the next one writes the report.
 #[test]
 fn refused_allocations_of_a_log(rt: HostRuntime) -> Result<(), Fail> {
-    let mut output = [0u8; ROOM];
-    let mut errors = [0u8; ROOM];
-    let (mut status, mut left, told) = logged_into(&rt, &mut output, &mut errors);
+    let mut output = output_of(rt.alloc())?;
+    let mut errors = output_of(rt.alloc())?;
+    let mut status = serve_log(&rt, &mut output, &mut errors);
     if status == 4 {
-        assert!(rt; left == ROOM);
-        let count = ROOM.saturating_sub(told);
-        assert!(rt; &errors[..count] == b"FAULT OutOfMemory\n".as_slice());
-        (status, left, _) = logged_into(&rt, &mut output, &mut errors);
+        assert!(rt; output.taken.is_empty());
+        assert!(rt; errors.taken.as_slice() == b"FAULT OutOfMemory\n".as_slice());
+        status = serve_log(&rt, &mut output, &mut errors);
     }
     assert!(rt; status == 3);
-    let count = ROOM.saturating_sub(left);
-    assert!(rt; &output[..count] == LOGGED.as_bytes());
+    assert!(rt; output.taken.as_slice() == LOGGED.as_bytes());
     Ok(())
 }

@@ -2,7 +2,6 @@
 //! meter hears; and the programs of seeds. A box is a unit like any other.
 
 mod campaigns;
-mod meeting;
 mod running;
 mod seeded_programs;
 

@@ -1,7 +1,6 @@
 //! Campaigns of the seeds 1, 2 and 3 on units of given kinds.
 ghost use Rattle.std.specs.Prelude.{◌≡◌, ◌≤◌, [], All, IfOk, length};
 
-use super::meeting::{Meeting, MeetingUnit};
 use progress_meters::Meter;
 use std::alloc::Global;
 use std::cell::Cell;
@@ -39,42 +38,43 @@ pub(super) enum Kind {
     Meeting,
 }
 
-/// A unit of this kind, whose calls are counted.
-fn unit_of(
-    alloc: Global,
-    kind: Kind,
-    counts: &Arc<CallCounts, Global>,
-    meeting: &Arc<Meeting, Global>,
-) -> Result<Boxed, OutOfMemory>
+/// A unit of this kind.
+fn unit_of(alloc: Global, kind: Kind) -> Result<Boxed, OutOfMemory>
     ensures { IfOk result (λ unit. (value_of unit).steps ≡ []) }
 {
-    let counts = Arc::try_clone(counts)?;
     match kind {
-        Kind::Serial => {
-            let unit = SerialUnit::new(alloc)?;
-            Ok(Box::new(alloc, CountingUnit::new(unit, counts))?)
-        }
+        Kind::Serial | Kind::Meeting => Ok(Box::new(alloc, SerialUnit::new(alloc)?)?),
         Kind::Buffer(capacity) => {
             let unit = StoreBufferUnit::new(alloc, capacity.clamp(1, 64))?;
-            Ok(Box::new(alloc, CountingUnit::new(unit, counts))?)
+            Ok(Box::new(alloc, unit)?)
         }
         Kind::Faulty(fault, trigger) => {
             let unit = FaultyUnit::new(alloc, fault, trigger.max(1), 8)?;
-            Ok(Box::new(alloc, CountingUnit::new(unit, counts))?)
+            Ok(Box::new(alloc, unit)?)
         }
-        Kind::Inventing => {
-            let unit = InventingUnit::new(alloc)?;
-            Ok(Box::new(alloc, CountingUnit::new(unit, counts))?)
-        }
+        Kind::Inventing => Ok(Box::new(alloc, InventingUnit::new(alloc)?)?),
         Kind::Refusing(call) => {
             let unit = RefusingUnit::new(SerialUnit::new(alloc)?, call);
-            Ok(Box::new(alloc, CountingUnit::new(unit, counts))?)
-        }
-        Kind::Meeting => {
-            let unit = MeetingUnit::new(SerialUnit::new(alloc)?, Arc::try_clone(meeting)?);
-            Ok(Box::new(alloc, CountingUnit::new(unit, counts))?)
+            Ok(Box::new(alloc, unit)?)
         }
     }
+}
+
+/// A unit of this kind, whose calls are counted.
+fn counting_unit(
+    alloc: Global,
+    kind: Kind,
+    counts: &Arc<CallCounts, Global>,
+) -> Result<Boxed, OutOfMemory>
+    ensures { IfOk result (λ unit. (value_of unit).steps ≡ []) }
+{
+    let unit = unit_of(alloc, kind)?;
+    let counts = Arc::try_clone(counts)?;
+    let counting = match kind {
+        Kind::Meeting => CountingUnit::waiting(unit, counts),
+        _ => CountingUnit::new(unit, counts),
+    };
+    Ok(Box::new(alloc, counting)?)
 }
 
 /// How programs are executed and printed, of which memory model they are, and whether a meter hears of the seeds.
@@ -138,7 +138,6 @@ fn units_of(
     counted: Option<usize>,
     here: &Arc<CallCounts, Global>,
     there: &Arc<CallCounts, Global>,
-    meeting: &Arc<Meeting, Global>,
 ) -> Result<Vec<Boxed>, OutOfMemory>
     ensures seeds { IfOk result (λ units. length units.items ≤ 3) }
     ensures untouched { IfOk result (λ units. All (λ unit. (value_of unit).steps ≡ []) units.items) }
@@ -159,9 +158,9 @@ fn units_of(
     } else {
         there
     };
-    let first = unit_of(alloc, first, first_counts, meeting)?;
-    let second = unit_of(alloc, second, second_counts, meeting)?;
-    let third = unit_of(alloc, third, third_counts, meeting)?;
+    let first = counting_unit(alloc, first, first_counts)?;
+    let second = counting_unit(alloc, second, second_counts)?;
+    let third = counting_unit(alloc, third, third_counts)?;
     list_of(alloc, first, second, third)
 }
 
@@ -175,8 +174,7 @@ pub(super) fn run_campaign<H: Threads + Wait + Sync + AllocGlobal>(
     room: usize,
 ) -> Result<Ran, Fail> {
     let (here, there) = (new_counts(alloc)?, new_counts(alloc)?);
-    let meeting = Arc::new(alloc, Meeting::new())?;
-    let units = units_of(alloc, kinds, counted, &here, &there, &meeting)?;
+    let units = units_of(alloc, kinds, counted, &here, &there)?;
     let plan = CampaignPlan {
         first: 1,
         order: way.order,
@@ -197,6 +195,6 @@ pub(super) fn run_campaign<H: Threads + Wait + Sync + AllocGlobal>(
         written: writer.taken,
         heard: meter.0.get(),
         calls: numbers_of(&here),
-        met: meeting.have_met(),
+        met: here.have_met(),
     })
 }

@@ -1,4 +1,4 @@
-//! Of the program's own crates.
+//! The calls that the READMEs of `command_line` and `request_serving` show, so that they compile and are proved.
 
 use command_line::{CommandLine, Notes, Request, read_arguments};
 use request_serving::{Diagnostics, drive};
@@ -9,7 +9,7 @@ use std::sync::Wait;
 use std::thread::Threads;
 
 /// `command_line`: what arguments ask for.
-pub fn request_of_arguments<'a>(
+pub(super) fn request_of_arguments<'a>(
     alloc: Global,
     arguments: &'a [String],
 ) -> Result<(Request<'a>, Notes), AllocError> {
@@ -18,7 +18,7 @@ pub fn request_of_arguments<'a>(
 }
 
 /// `request_serving`: does what arguments ask for, and gives the status of the process.
-pub fn do_what_arguments_ask<
+pub(super) fn do_what_arguments_ask<
     H: Threads + Wait + Sync + Files + AllocGlobal + Eprint + Clock,
     R: Read,
     W: Write,
