@@ -1,5 +1,5 @@
 //! What is told on standard error beside what a request prints: how much is done, why a file can't be read, and what a refused
-//! text looks like, or within which limits refused numbers aren't.
+//! text looks like, or which limits refused numbers break.
 
 use crate::hints::Likeness;
 use command_line::Notes;
@@ -170,8 +170,8 @@ impl<'h, H: Eprint + Clock + AllocGlobal> Diagnostics<'h, H> {
         }
     }
 
-    /// Tells within which limits numbers had to be that this subcommand refused, or what a text looks like that it refused,
-    /// where it reads no such texts.
+    /// Tells the limits that refused numbers break, or what a text looks like that this subcommand refused, where it reads no
+    /// such texts.
     pub(crate) fn tell_hint(&self, subcommand: &str) {
         let of_text = || self.likeness.get()?.hint(subcommand);
         if let Some(hint) = self.limits.get().or_else(of_text) {

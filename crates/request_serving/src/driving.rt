@@ -32,11 +32,12 @@ use trace_judging::Fault;
 /// `make` draws a program from a seed, and `campaign` runs those of many seeds. A file `-` is what the reader has.
 ///
 /// Status 0: no violation was found, a trace has an order or the order holds, or a text was asked for and written. 1: not all
-/// of a log was judged, fewer traces of a batch than asked for, or nothing was decided. 2: a text, a certificate, evidence, a shape or seeds were refused; or a log or
-/// the arguments were, whose refusal is written to `errors`. 3: a violation, or a certificate or a refutation that holds. 4: a
-/// fault; one line, as `FAULT Read`, is written to `errors`. All files that the arguments name are opened, in their order,
-/// before one is read; but those of `batch` each when its turn comes, and it goes on where one can't be opened. At most 1,048,577 bytes of a trace, of a program and of a
-/// schedule are read, 67,108,865 of a certificate and of evidence; of many traces and of a log all are.
+/// of a log was judged, fewer traces of a batch than asked for, or nothing was decided. 2: a text, a certificate, evidence, a
+/// shape or seeds were refused; or a log or the arguments were, whose refusal is written to `errors`. 3: a violation, or a
+/// certificate or a refutation that holds. 4: a fault; one line, as `FAULT Read`, is written to `errors`. All files that the
+/// arguments name are opened, in their order, before one is read; but those of `batch` each when its turn comes, and it goes on
+/// where one can't be opened. At most 1,048,577 bytes of a trace, of a program and of a schedule are read, 67,108,865 of a
+/// certificate and of evidence; of many traces and of a log all are.
 ///
 /// With `--verbose`, or where the standard error of their runtime is a terminal, the diagnostics tell after the line of a fault
 /// why a file can't be opened or read, or the reader where they watch it, and after a refusal what the text looks like or which
