@@ -1,5 +1,5 @@
--- The cycles that have names in the literature of memory models, each by its shape. A cycle begins where a from-read ends, so one that has several of them in
--- different places stands here for each.
+-- The cycles that have names in the literature of memory models, each by its shape. A cycle begins where a from-read ends, or where coherence does that a
+-- load shows, so one that has several of these in different places stands here for each.
 use Rattle.std.specs.Prelude.{ℕ, List, [], ◌∷◌, codes}
 
 abbrev pub cycle_names : List (List ℕ × List ℕ)
@@ -29,6 +29,12 @@ cycle_names =
     ∷ (codes "PodWW Coe PodWR Fre PodWR Fre", codes "the litmus test Z6.4")
     ∷ (codes "PodWR Fre PodWW Coe PodWR Fre", codes "the litmus test Z6.4")
     ∷ (codes "PodWW Coe PodWW Coe PodWR Fre", codes "the litmus test Z6.5")
+    ∷ (codes "Rfe PodRW Coe PodWW Coe", codes "the litmus test WRW+2W")
+    ∷ (codes "PodWW Coe Rfe PodRW Coe", codes "the litmus test WRW+2W")
+    ∷ (codes "Rfe PodRW Coe Rfe PodRW Coe", codes "the litmus test IRWIW")
+    ∷ (codes "PodWW Coe PodWW Rfe PodRW Coe", codes "the litmus test Z6.1")
+    ∷ (codes "PodWW Rfe PodRW Coe PodWW Coe", codes "the litmus test Z6.1")
+    ∷ (codes "PodWW Rfe PodRW Rfe PodRW Coe", codes "the litmus test Z6.2")
     ∷ (codes "Rfe PosRR Fre", codes "the litmus test CoRR")
     ∷ (codes "PosWR Fri", codes "the litmus test CoWR")
     ∷ (codes "PosRW Rfi", codes "the litmus test CoRW1")

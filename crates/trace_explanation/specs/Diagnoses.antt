@@ -1,5 +1,5 @@
 -- The line that begins the explanation of a cycle: a load of it that read something too old, or a store that comes later, and what the cycle is called.
-use Rattle.std.specs.Prelude.{ℕ, ◌==◌, ◌&&◌, ◌||◌, Bool, not, nat_lt, List, [], ◌∷◌, ◌++◌, length, reverse, get_or, cond, codes}
+use Rattle.std.specs.Prelude.{ℕ, ◌==◌, ◌&&◌, ◌||◌, Bool, not, nat_lt, List, [], ◌∷◌, ◌++◌, reverse, get_or, cond, codes}
 use Rattle.std.specs.Option.{option_map_or, option_to_list}
 use Rattle.std.specs.List.{find}
 use Rattle.std.specs.Fmt.{decimal}
@@ -10,12 +10,13 @@ use Rattle.tso_cert.specs.declared.steps.Reason.TheVariants.{Base, Inferred}
 use Rattle.trace_explanation.specs.JoinedTexts.{joined}
 use Rattle.trace_explanation.specs.declared.subjects.Subject.{Subject}
 use Rattle.trace_explanation.specs.declared.subjects.Subject.TheVariants.{Trace, Log}
-use Rattle.trace_explanation.specs.declared.unfolded_cycles.EdgeKind.TheVariants.{FromRead, Missed, ReadFrom}
-use Rattle.trace_explanation.specs.Names.{source_of}
+use Rattle.trace_explanation.specs.declared.unfolded_cycles.EdgeKind.TheVariants.{FromRead, ReadFrom}
+use Rattle.trace_explanation.specs.ClosedPaths.{closing_path, leaves_address, only_closes, stale_cycle}
+use Rattle.trace_explanation.specs.Names.{address_at, source_of}
 use Rattle.trace_explanation.specs.Namings.{address_named, line_named, processor_named, NamingValue}
 use Rattle.trace_explanation.specs.Steps.{is_edge, is_number, links_of, own_load}
 use Rattle.trace_explanation.specs.CycleShapes.{cycle_shape, is_load_at, is_one_operation, last_of, on_one_processor, shape_text}
-use Rattle.trace_explanation.specs.UnfoldedCycles.{unfolded_cycle, walk_by}
+use Rattle.trace_explanation.specs.UnfoldedCycles.{missed_walk, unfolded_cycle, walk_by}
 
 -- ---- events in short
 
@@ -65,24 +66,36 @@ before_words naming t walk w l = option_map_or (arrival_words naming t w l) (fin
 
 -- ---- the line
 
--- a walk from a store to a load that read something older than that store; the cycle has this shape
-unfoldable pub stale_line : NamingValue → TraceValue → List ℕ → List ℕ → List ℕ
-stale_line naming t shape walk = joined (
-    codes "\n" ∷ load_words naming (last_of walk) ∷ codes " from before " ∷ store_words naming t (last_of walk) (get_or walk 0 0) ∷ before_words naming t walk (get_or walk 0 0) (last_of walk)
+-- that the load of the line only shows that store w comes before store s
+unfoldable pub order_words : NamingValue → ℕ → ℕ → List ℕ
+order_words naming w s =
+    joined (codes ", which only shows that store " ∷ place_words naming w ∷ codes " comes before store " ∷ place_words naming s ∷ [])
+
+-- a walk from a store to a load that read something older than that store, with what is said of the two stores; the cycle has this shape
+unfoldable pub stale_line : NamingValue → TraceValue → List ℕ → List ℕ → List ℕ → List ℕ
+stale_line naming t shape walk order = joined (
+    codes "\n" ∷ load_words naming (last_of walk) ∷ codes " from before " ∷ store_words naming t (last_of walk) (get_or walk 0 0) ∷ before_words naming t walk (get_or walk 0 0) (last_of walk) ∷ order
     ∷ codes ": " ∷ shape_text shape ∷ codes ".\n" ∷ [])
+
+-- the same by the path to the store from what the load read
+abbrev pub stale_by : NamingValue → TraceValue → List CertStep → List ℕ → List ℕ → List ℕ
+stale_by naming t steps walk path =
+    stale_line naming t (cycle_shape t (stale_cycle t steps walk path)) walk (cond (only_closes t walk path) (order_words naming (get_or walk 0 0) (get_or path 0 0)) [])
 
 -- the path from store u to a load that sees it and read what number v wrote
 abbrev pub missed_path : TraceValue → ℕ → ℕ → Reason → List ℕ
 missed_path t u v (Base rule) = u ∷ option_to_list (own_load t u v)
 missed_path t u v (Inferred rule load path) = path
 
--- The walk leads from the first values, or to the store by one edge or through its swap's load: then the path alone has the cycle's shape.
+-- The walk leads from the first values, or is about one address: then the path alone has the cycle's shape.
 abbrev pub is_direct : TraceValue → List ℕ → Bool
-is_direct t walk = (get_or walk 0 0 == 0) || (length walk == 2) || ((length walk == 3) && is_one_operation t (get_or walk 1 0) (last_of walk))
+is_direct t walk = (get_or walk 0 0 == 0) || not (leaves_address t (address_at t (last_of walk)) walk)
 
--- a walk to a store from what a load read, which sees that store by this path
+-- A walk to a store from what a load read, which sees that store by this path. Where the walk has the cycle's shape, the load only shows that the
+-- store comes before what it read.
 abbrev pub missed_by : NamingValue → TraceValue → List ℕ → List ℕ → List ℕ
-missed_by naming t walk path = stale_line naming t (cycle_shape t (cond (is_direct t walk) path walk)) path
+missed_by naming t walk path =
+    cond (is_direct t walk) (stale_line naming t (cycle_shape t path) path []) (stale_line naming t (cycle_shape t walk) path (order_words naming (last_of walk) (get_or walk 0 0)))
 
 -- the same by the steps
 unfoldable pub missed_line : NamingValue → TraceValue → List CertStep → List ℕ → List ℕ
@@ -98,8 +111,8 @@ future_line naming t walk = joined (
 -- of the first load that read something older than a store of the cycle, or missed one, or read from a later store
 unfoldable pub diagnosis_by : NamingValue → TraceValue → List CertStep → List ℕ → List ℕ
 diagnosis_by naming t steps cycle =
-    option_map_or (λ walk. stale_line naming t (cycle_shape t walk) walk) (walk_by steps FromRead cycle)
-    (option_map_or (missed_line naming t steps) (walk_by steps Missed cycle) (option_map_or (future_line naming t) (walk_by steps ReadFrom cycle) []))
+    option_map_or (λ walk. stale_by naming t steps walk (closing_path steps walk)) (walk_by steps FromRead cycle)
+    (option_map_or (missed_line naming t steps) (missed_walk steps cycle) (option_map_or (future_line naming t) (walk_by steps ReadFrom cycle) []))
 
 -- the line of a cycle
 abbrev pub diagnosis_text : NamingValue → TraceValue → List CertStep → List ℕ → List ℕ

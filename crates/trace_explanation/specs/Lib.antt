@@ -1,4 +1,5 @@
 pub mod Claims
+pub mod ClosedPaths
 pub mod CycleNames
 pub mod CycleShapes
 pub mod DiagnosedCycles

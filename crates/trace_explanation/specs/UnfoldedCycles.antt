@@ -1,6 +1,6 @@
 -- The cycle that a diagnosis speaks of: that of a certificate, unfolded, so that some inferred edges are the paths that they rest on.
 use Rattle.std.specs.Prelude.{ℕ, ◌+◌, ◌-◌, ◌==◌, ◌&&◌, Bool, true, false, List, [], ◌∷◌, ◌++◌, length, take, drop, get_or, position, Option, cond}
-use Rattle.std.specs.Option.{option_map, option_map_or}
+use Rattle.std.specs.Option.{option_map, option_map_or, option_or}
 use Rattle.std.specs.List.{find, flat_map, list_any}
 use Rattle.tso_cert.specs.declared.rules.BaseRule.TheVariants.{Read, Own}
 use Rattle.tso_cert.specs.declared.rules.InferredRule.{InferredRule}
@@ -9,7 +9,7 @@ use Rattle.tso_cert.specs.declared.steps.Reason.{Reason}
 use Rattle.tso_cert.specs.declared.steps.Reason.TheVariants.{Base, Inferred}
 use Rattle.tso_cert.specs.declared.steps.CertStep.{CertStep}
 use Rattle.trace_explanation.specs.declared.unfolded_cycles.EdgeKind.{EdgeKind}
-use Rattle.trace_explanation.specs.declared.unfolded_cycles.EdgeKind.TheVariants.{FromRead, Missed, ReadFrom}
+use Rattle.trace_explanation.specs.declared.unfolded_cycles.EdgeKind.TheVariants.{FromRead, MissedOwn, Missed, ReadFrom}
 use Rattle.trace_explanation.specs.Steps.{is_edge, links_of}
 
 -- ---- paths in place of edges
@@ -46,10 +46,11 @@ unfolded_cycle steps cycle = flat_map (link_numbers (links_of cycle) steps) (lin
 
 -- ---- where it begins
 
--- Whether a rule gives an edge of this kind: from a load to a later store than it read; from a store that a load sees to what the load read; from a
--- store to a load that read it.
+-- Whether a rule gives an edge of this kind: from a load to a later store than it read; from a store that a load sees to what the load read, of its
+-- own processor or of any; from a store to a load that read it.
 abbrev pub is_of_kind : EdgeKind → Reason → Bool
 is_of_kind FromRead (Inferred StorePast load path) = true
+is_of_kind MissedOwn (Base Own) = true
 is_of_kind Missed (Inferred LoadPast load path) = true
 is_of_kind Missed (Base Own) = true
 is_of_kind ReadFrom (Base Read) = true
@@ -66,3 +67,7 @@ turned cycle k = drop k cycle ++ take k cycle
 -- the cycle from the end of its first edge of this kind around to the beginning of that edge
 unfoldable pub walk_by : List CertStep → EdgeKind → List ℕ → Option (List ℕ)
 walk_by steps kind cycle = option_map (λ k. turned cycle (k + 1)) (position (has_kind steps kind) (links_of cycle))
+
+-- the same by an edge from a store that a load sees to what it read: if there is one of an own store, by that
+abbrev pub missed_walk : List CertStep → List ℕ → Option (List ℕ)
+missed_walk steps cycle = option_or (walk_by steps MissedOwn cycle) (walk_by steps Missed cycle)

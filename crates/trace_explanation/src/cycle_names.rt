@@ -15,7 +15,7 @@ struct NamedCycle {
 }
 
 /// All that have.
-static NAMED_CYCLES: [NamedCycle; 34] = [
+static NAMED_CYCLES: [NamedCycle; 40] = [
     NamedCycle {
         shape: "PodWW Rfe PodRR Fre",
         name: "message passing",
@@ -115,6 +115,30 @@ static NAMED_CYCLES: [NamedCycle; 34] = [
     NamedCycle {
         shape: "PodWW Coe PodWW Coe PodWR Fre",
         name: "the litmus test Z6.5",
+    },
+    NamedCycle {
+        shape: "Rfe PodRW Coe PodWW Coe",
+        name: "the litmus test WRW+2W",
+    },
+    NamedCycle {
+        shape: "PodWW Coe Rfe PodRW Coe",
+        name: "the litmus test WRW+2W",
+    },
+    NamedCycle {
+        shape: "Rfe PodRW Coe Rfe PodRW Coe",
+        name: "the litmus test IRWIW",
+    },
+    NamedCycle {
+        shape: "PodWW Coe PodWW Rfe PodRW Coe",
+        name: "the litmus test Z6.1",
+    },
+    NamedCycle {
+        shape: "PodWW Rfe PodRW Coe PodWW Coe",
+        name: "the litmus test Z6.1",
+    },
+    NamedCycle {
+        shape: "PodWW Rfe PodRW Rfe PodRW Coe",
+        name: "the litmus test Z6.2",
     },
     NamedCycle {
         shape: "Rfe PosRR Fre",

@@ -1,11 +1,12 @@
 //! The cycle that a diagnosis names.
 ghost use Rattle.std.specs.Prelude.{◌≡◌, IfOk};
-ghost use Rattle.trace_explanation.specs.DiagnosedCycles.{diagnosed_cycle, missed_cycle, named_cycle};
+ghost use Rattle.trace_explanation.specs.DiagnosedCycles.{diagnosed_cycle, missed_by_steps, missed_cycle, named_cycle};
 
+use crate::closed_paths::{closing_path, stale_cycle};
 use crate::cycle_shapes::last_of;
 use crate::diagnoses::{is_direct, missed_path};
 use crate::numbers::NumberedSteps;
-use crate::unfolded_cycles::{EdgeKind, item, unfolded_cycle, walk_by};
+use crate::unfolded_cycles::{EdgeKind, item, missed_walk, unfolded_cycle, walk_by};
 use std::alloc::{AllocError, Global};
 use tso_ops::Trace;
 
@@ -34,25 +35,45 @@ fn named_cycle(
     ensures { IfOk result (λ numbers. numbers.items ≡ named_cycle trace.now numbered.now cycle.now) }
 {
     if let Some(walk) = walk_by(alloc, numbered, EdgeKind::FromRead, cycle)? {
-        return Ok(walk);
+        let path = closing_path(numbered, &walk);
+        return stale_cycle(alloc, trace, numbered, &walk, path);
     }
-    match walk_by(alloc, numbered, EdgeKind::Missed, cycle)? {
-        Some(walk) => missed_cycle(alloc, trace, numbered, &walk),
+    match missed_walk(alloc, numbered, cycle)? {
+        Some(walk) => missed_by_steps(alloc, trace, numbered, &walk),
         None => Vec::from_slice(alloc, cycle),
     }
 }
 
-/// The walk to a store from what a load read that missed it, or that load's path from the store where the walk is direct.
-fn missed_cycle(
+/// The cycle by a walk to a store from what a load read that missed it.
+fn missed_by_steps(
     alloc: Global,
     trace: &Trace,
     numbered: &NumberedSteps<'_>,
     walk: &[u64],
 ) -> Result<Vec<u64>, AllocError>
-    ensures { IfOk result (λ numbers. numbers.items ≡ missed_cycle trace.now numbered.now walk.now) }
+    ensures { IfOk result (λ numbers. numbers.items ≡ missed_by_steps trace.now numbered.now walk.now) }
 {
     match numbered.step(last_of(walk), item(walk, 0)) {
-        Some(step) if is_direct(trace, walk) => missed_path(alloc, trace, step),
-        _ => Vec::from_slice(alloc, walk),
+        Some(step) => {
+            let path = missed_path(alloc, trace, step)?;
+            missed_cycle(alloc, trace, walk, path)
+        }
+        None => Vec::from_slice(alloc, walk),
+    }
+}
+
+/// The load's path from the store where it has the shape of the cycle, else the walk to the store.
+fn missed_cycle(
+    alloc: Global,
+    trace: &Trace,
+    walk: &[u64],
+    path: Vec<u64>,
+) -> Result<Vec<u64>, AllocError>
+    ensures { IfOk result (λ numbers. numbers.items ≡ missed_cycle trace.now walk.now path.items) }
+{
+    if is_direct(alloc, trace, walk)? {
+        Ok(path)
+    } else {
+        Vec::from_slice(alloc, walk)
     }
 }

@@ -1,14 +1,15 @@
 //! The line that begins the explanation of a cycle.
 ghost use Rattle.std.specs.Prelude.{◌≡◌, ◌++◌, string_bytes, OnOk, IfOk};
-ghost use Rattle.trace_explanation.specs.Diagnoses.{diagnosis_by, diagnosis_text, future_line, is_direct, missed_by, missed_line, missed_path, stale_line};
+ghost use Rattle.trace_explanation.specs.Diagnoses.{diagnosis_by, diagnosis_text, future_line, is_direct, missed_by, missed_line, missed_path, stale_by, stale_line};
 
+use crate::closed_paths::{closing_path, leaves_address, only_closes, stale_cycle};
 use crate::cycle_names::shape_text;
-use crate::cycle_shapes::{cycle_shape, is_one_operation, last_of};
-use crate::diagnosis_words::{before_words, load_words, place_words, store_words};
+use crate::cycle_shapes::{cycle_shape, last_of};
+use crate::diagnosis_words::{before_words, load_words, order_words, place_words, store_words};
 use crate::loads::own_load;
-use crate::names::NamedTrace;
+use crate::names::{NamedTrace, address_of};
 use crate::numbers::NumberedSteps;
-use crate::unfolded_cycles::{EdgeKind, item, unfolded_cycle, walk_by};
+use crate::unfolded_cycles::{EdgeKind, item, missed_walk, unfolded_cycle, walk_by};
 use std::alloc::{AllocError, Global};
 use std::fmt::Write;
 use tso_cert::{CertStep, Reason};
@@ -28,10 +29,10 @@ pub(crate) fn push_diagnosis(
 {
     let cycle = unfolded_cycle(alloc, numbered, cycle)?;
     if let Some(walk) = walk_by(alloc, numbered, EdgeKind::FromRead, &cycle)? {
-        let shape = cycle_shape(alloc, named.trace, &walk)?;
-        return push_stale(alloc, text, named, &shape, &walk);
+        let path = closing_path(numbered, &walk);
+        return push_stale_by(alloc, text, named, numbered, &walk, path);
     }
-    if let Some(walk) = walk_by(alloc, numbered, EdgeKind::Missed, &cycle)? {
+    if let Some(walk) = missed_walk(alloc, numbered, &cycle)? {
         return push_missed(alloc, text, named, numbered, &walk);
     }
     match walk_by(alloc, numbered, EdgeKind::ReadFrom, &cycle)? {
@@ -40,7 +41,34 @@ pub(crate) fn push_diagnosis(
     }
 }
 
-/// Appends the line of a walk from a store to a load that read something older; the cycle has this shape.
+/// Appends the line of a walk from a store to a load that read something older, by the path to the store from what it read.
+fn push_stale_by(
+    alloc: Global,
+    text: &mut String,
+    named: &NamedTrace<'_>,
+    numbered: &NumberedSteps<'_>,
+    walk: &[u64],
+    path: &[u64],
+) -> Result<(), AllocError>
+    ensures { OnOk result (string_bytes text.new ≡ string_bytes text.old ++ stale_by named.now.names.now named.now.trace.now numbered.now walk.now path.now) }
+{
+    let cycle = stale_cycle(alloc, named.trace, numbered, walk, path)?;
+    let shape = cycle_shape(alloc, named.trace, &cycle)?;
+    let order = if only_closes(alloc, named.trace, walk, path)? {
+        order_words(
+            alloc,
+            named.names,
+            item(walk, 0) as usize,
+            item(path, 0) as usize,
+        )?
+    } else {
+        String::new(alloc)
+    };
+    push_stale(alloc, text, named, &shape, walk, &order)
+}
+
+/// Appends the line of a walk from a store to a load that read something older, with what is said of the two stores; the cycle has
+/// this shape.
 #[tactic(auto, unfolding(crate::specs::Diagnoses::stale_line))]
 fn push_stale(
     alloc: Global,
@@ -48,8 +76,9 @@ fn push_stale(
     named: &NamedTrace<'_>,
     shape: &str,
     walk: &[u64],
+    order: &str,
 ) -> Result<(), AllocError>
-    ensures { OnOk result (string_bytes text.new ≡ string_bytes text.old ++ stale_line named.now.names.now named.now.trace.now shape.now walk.now) }
+    ensures { OnOk result (string_bytes text.new ≡ string_bytes text.old ++ stale_line named.now.names.now named.now.trace.now shape.now walk.now order.now) }
 {
     let store = item(walk, 0) as usize;
     let load = last_of(walk) as usize;
@@ -57,7 +86,10 @@ fn push_stale(
     let missed = store_words(alloc, named, load, store)?;
     let before = before_words(alloc, named, walk, store, load)?;
     let shape = shape_text(alloc, shape)?;
-    write!(text, "\n{read} from before {missed}{before}: {shape}.\n")
+    write!(
+        text,
+        "\n{read} from before {missed}{before}{order}: {shape}.\n"
+    )
 }
 
 /// Appends the line of a walk to a store from what a load read that sees the store.
@@ -90,13 +122,19 @@ fn push_missed_by(
 ) -> Result<(), AllocError>
     ensures { OnOk result (string_bytes text.new ≡ string_bytes text.old ++ missed_by named.now.names.now named.now.trace.now walk.now path.now) }
 {
-    let cycle = if is_direct(named.trace, walk) {
-        path
+    if is_direct(alloc, named.trace, walk)? {
+        let shape = cycle_shape(alloc, named.trace, path)?;
+        push_stale(alloc, text, named, &shape, path, "")
     } else {
-        walk
-    };
-    let shape = cycle_shape(alloc, named.trace, cycle)?;
-    push_stale(alloc, text, named, &shape, path)
+        let shape = cycle_shape(alloc, named.trace, walk)?;
+        let order = order_words(
+            alloc,
+            named.names,
+            last_of(walk) as usize,
+            item(walk, 0) as usize,
+        )?;
+        push_stale(alloc, text, named, &shape, path, &order)
+    }
 }
 
 /// The path from a store to the load that sees it, by the step. OutOfMemory where an allocation was refused.
@@ -119,14 +157,13 @@ pub(crate) fn missed_path(
     }
 }
 
-/// Whether the walk to the store says nothing of the cycle's shape.
-pub(crate) fn is_direct(trace: &Trace, walk: &[u64]) -> bool
-    ensures { result ≡ is_direct trace.now walk.now }
+/// Whether the walk to the store says nothing of the cycle's shape. OutOfMemory where an allocation was refused.
+pub(crate) fn is_direct(alloc: Global, trace: &Trace, walk: &[u64]) -> Result<bool, AllocError>
+    ensures { IfOk result (λ direct. direct ≡ is_direct trace.now walk.now) }
 {
-    item(walk, 0) == 0
-        || walk.len() == 2
-        || (walk.len() == 3
-            && is_one_operation(trace, item(walk, 1) as usize, last_of(walk) as usize))
+    let address = address_of(trace, last_of(walk) as usize);
+    let leaves = leaves_address(alloc, trace, address, walk)?;
+    Ok(item(walk, 0) == 0 || !leaves)
 }
 
 /// Appends the line of a walk from a load to a store that it read.

@@ -2,7 +2,7 @@
 ghost use Rattle.std.specs.Prelude.{◌≡◌, ◌++◌, ◌==◌, ◌&&◌, [], find, not, reverse, string_bytes, OnOk, IfOk};
 ghost use Rattle.std.specs.Option.{option_map_or};
 ghost use Rattle.trace_explanation.specs.Steps.{links_of};
-ghost use Rattle.trace_explanation.specs.Diagnoses.{arrival_words, arrives, before_words, load_words, place_words, seen_words, store_words, stored_words};
+ghost use Rattle.trace_explanation.specs.Diagnoses.{arrival_words, arrives, before_words, load_words, order_words, place_words, seen_words, store_words, stored_words};
 
 use crate::cycle_shapes::{is_load, is_one_operation, on_one_processor, reads_from};
 use crate::links::list_links;
@@ -53,6 +53,21 @@ pub(crate) fn store_words(
         let processor = named.names.processor(s);
         format!(in alloc; "P{processor}'s store {place}")
     }
+}
+
+/// That the load of the line only shows that store `w` comes before store `s`. OutOfMemory where an allocation was refused.
+#[tactic(auto, unfolding(crate::specs::Diagnoses::order_words))]
+pub(crate) fn order_words(
+    alloc: Global,
+    names: &EventNames,
+    w: usize,
+    s: usize,
+) -> Result<String, AllocError>
+    ensures { IfOk result (λ text. string_bytes text ≡ order_words names.now w s) }
+{
+    let first = place_words(alloc, names, w)?;
+    let second = place_words(alloc, names, s)?;
+    format!(in alloc; ", which only shows that store {first} comes before store {second}")
 }
 
 /// What the processor of load `l` had seen or stored, by the last edge of the walk from store `w` that leads to it.

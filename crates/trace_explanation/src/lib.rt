@@ -22,6 +22,7 @@ pub use unfolded_cycles::is_link;
 pub use unwritten::list_stores;
 pub use words::reason_words;
 
+mod closed_paths;
 mod cycle_names;
 mod cycle_shapes;
 mod cycles;

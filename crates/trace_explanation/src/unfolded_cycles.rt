@@ -1,7 +1,7 @@
 //! The cycle of a certificate, unfolded, and walks around it.
 ghost use Rattle.std.specs.Prelude.{◌≡◌, ◌++◌, ◌∷◌, [], drop, get_or, position, IfOk, OnOk};
 ghost use Rattle.std.specs.Option.{option_copied, option_map, option_map_or};
-ghost use Rattle.trace_explanation.specs.UnfoldedCycles.{has_kind, is_link, is_of_kind, link_numbers, numbers_of, reason_numbers, turned, unfolded_cycle, walk_by, without_last};
+ghost use Rattle.trace_explanation.specs.UnfoldedCycles.{has_kind, is_link, is_of_kind, link_numbers, missed_walk, numbers_of, reason_numbers, turned, unfolded_cycle, walk_by, without_last};
 
 use crate::links::list_links;
 use crate::numbers::NumberedSteps;
@@ -14,6 +14,8 @@ use tso_cert::{BaseRule, CertStep, InferredRule, Reason};
 pub enum EdgeKind {
     /// From a load to a store that is later than what it read: of the rule StorePast.
     FromRead,
+    /// From a store that a load sees, since it is earlier on its own processor, to what the load read: of the rule Own.
+    MissedOwn,
     /// From a store that a load sees to what the load read: of the rules Own and LoadPast.
     Missed,
     /// From a store to a load that read it: of the rule Read.
@@ -152,6 +154,21 @@ pub(crate) fn walk_by(
     }
 }
 
+/// The same by an edge from a store that a load sees to what it read: if there is one of an own store, by that. OutOfMemory where
+/// an allocation was refused.
+pub(crate) fn missed_walk(
+    alloc: Global,
+    numbered: &NumberedSteps<'_>,
+    cycle: &[u64],
+) -> Result<Option<Vec<u64>>, AllocError>
+    ensures { IfOk result (λ walk. option_map (λ w. w.items) walk ≡ missed_walk numbered.now cycle.now) }
+{
+    match walk_by(alloc, numbered, EdgeKind::MissedOwn, cycle)? {
+        Some(walk) => Ok(Some(walk)),
+        None => walk_by(alloc, numbered, EdgeKind::Missed, cycle),
+    }
+}
+
 /// The place of the first of these edges that has this kind.
 fn first_of_kind(
     numbered: &NumberedSteps<'_>,
@@ -181,6 +198,7 @@ fn is_of_kind(kind: EdgeKind, reason: &Reason) -> bool
 {
     match (kind, reason) {
         (EdgeKind::FromRead, Reason::Inferred { rule, .. }) => *rule == InferredRule::StorePast,
+        (EdgeKind::MissedOwn, Reason::Base(rule)) => *rule == BaseRule::Own,
         (EdgeKind::Missed, Reason::Inferred { rule, .. }) => *rule == InferredRule::LoadPast,
         (EdgeKind::Missed, Reason::Base(rule)) => *rule == BaseRule::Own,
         (EdgeKind::ReadFrom, Reason::Base(rule)) => *rule == BaseRule::Read,
