@@ -53,15 +53,39 @@ json_line label number Consistent = json_verdict label number (codes "consistent
 json_line label number (Undecided steps) = json_undecided label number steps
 json_line label number (Refused fault) = json_refusal label number fault
 
--- ---- in JUnit's XML, one document with a test case for each trace
+-- ---- in JUnit's XML, one document with a suite for each trace, since the numbers of a suite come before its tests
 
--- what stands before the test cases
+-- what stands before the suites
 abbrev pub junit_head : List ℕ
-junit_head = codes "<?xml version=\"1.0\" encoding=\"UTF-8\"?>\n<testsuites>\n<testsuite name=\"tsobench batch\">\n"
+junit_head = codes "<?xml version=\"1.0\" encoding=\"UTF-8\"?>\n<testsuites>\n"
 
--- the test case of the trace of this number, of which this is the end
-abbrev pub junit_case : List ℕ → ℕ → List ℕ → List ℕ
-junit_case label number end = codes "<testcase classname=\"" ++ label ++ codes "\" name=\"trace " ++ decimal number ++ codes "\"" ++ end ++ 10 ∷ []
+-- the numbers of a suite of one test: the test passes, fails, ends with an error, or is skipped
+abbrev pub one_passed : List ℕ
+one_passed = codes "tests=\"1\" failures=\"0\" errors=\"0\" skipped=\"0\""
+
+abbrev pub one_failed : List ℕ
+one_failed = codes "tests=\"1\" failures=\"1\" errors=\"0\" skipped=\"0\""
+
+abbrev pub one_error : List ℕ
+one_error = codes "tests=\"1\" failures=\"0\" errors=\"1\" skipped=\"0\""
+
+abbrev pub one_skipped : List ℕ
+one_skipped = codes "tests=\"1\" failures=\"0\" errors=\"0\" skipped=\"1\""
+
+-- the start of the suite with these numbers whose one test has this name, of a text that has this label
+unfoldable pub suite_start : List ℕ → List ℕ → List ℕ → List ℕ
+suite_start label name numbers = codes "<testsuite name=\"" ++ (label ++ (codes " " ++ (name ++ (codes "\" " ++ (numbers ++ codes ">")))))
+
+-- the test case, which has this end, and the end of its suite
+unfoldable pub suite_case : List ℕ → List ℕ → List ℕ → List ℕ
+suite_case label name end = codes "<testcase classname=\"" ++ (label ++ (codes "\" name=\"" ++ (name ++ (codes "\"" ++ (end ++ codes "</testsuite>\n")))))
+
+unfoldable pub junit_suite : List ℕ → List ℕ → List ℕ → List ℕ → List ℕ
+junit_suite label name numbers end = suite_start label name numbers ++ suite_case label name end
+
+-- the suite of the trace of this number
+abbrev pub junit_trace : List ℕ → ℕ → List ℕ → List ℕ → List ℕ
+junit_trace label number numbers end = junit_suite label (codes "trace " ++ decimal number) numbers end
 
 -- the end of a refusal: an error, with its name and its line
 unfoldable pub junit_error : TextFault → List ℕ
@@ -73,11 +97,11 @@ junit_skipped steps = codes "><skipped message=\"UNDECIDED " ++ (decimal steps +
 
 -- the line of the trace of this number: a violation is a failure
 abbrev pub junit_line : List ℕ → ℕ → Judgment → List ℕ
-junit_line label number NoViolation = junit_case label number (codes "/>")
-junit_line label number Violation = junit_case label number (codes "><failure message=\"VIOLATION\"/></testcase>")
-junit_line label number Consistent = junit_case label number (codes "/>")
-junit_line label number (Undecided steps) = junit_case label number (junit_skipped steps)
-junit_line label number (Refused fault) = junit_case label number (junit_error fault)
+junit_line label number NoViolation = junit_trace label number one_passed (codes "/>")
+junit_line label number Violation = junit_trace label number one_failed (codes "><failure message=\"VIOLATION\"/></testcase>")
+junit_line label number Consistent = junit_trace label number one_passed (codes "/>")
+junit_line label number (Undecided steps) = junit_trace label number one_skipped (junit_skipped steps)
+junit_line label number (Refused fault) = junit_trace label number one_error (junit_error fault)
 
 -- ---- in each format
 
@@ -120,11 +144,16 @@ abbrev pub total_json : BatchMethod → Tally → List ℕ
 total_json Judge tally = judged_json tally
 total_json (Decide effort) tally = decided_json tally
 
--- in each format; in XML it ends the document
+-- in XML, a suite without a test, which ends the document
+abbrev pub total_suite : List ℕ → List ℕ
+total_suite words =
+    codes "<testsuite name=\"tsobench batch\" tests=\"0\" failures=\"0\" errors=\"0\" skipped=\"0\"><system-out>" ++ words ++ codes "</system-out></testsuite>\n</testsuites>\n"
+
+-- in each format
 abbrev pub total_text : BatchFormat → BatchMethod → Tally → List ℕ
 total_text Words method tally = total_words method tally ++ codes "\n"
 total_text Json method tally = total_json method tally
-total_text Junit method tally = codes "<system-out>" ++ total_words method tally ++ codes "</system-out>\n</testsuite>\n</testsuites>\n"
+total_text Junit method tally = total_suite (total_words method tally)
 
 -- the numbers of these judgments
 abbrev pub tally_of : List Judgment → Tally
@@ -147,14 +176,14 @@ unfoldable pub unread_json : List ℕ → List ℕ
 unread_json label = codes "{" ++ (label ++ codes "\"fault\":\"Read\"}\n")
 
 -- in JUnit's XML
-unfoldable pub unread_case : List ℕ → List ℕ
-unread_case label = codes "<testcase classname=\"" ++ (label ++ codes "\" name=\"text\"><error message=\"FAULT Read\"/></testcase>\n")
+abbrev pub unread_suite : List ℕ → List ℕ
+unread_suite label = junit_suite label (codes "text") one_error (codes "><error message=\"FAULT Read\"/></testcase>")
 
 -- what stands in place of the lines of a text that has this label
 abbrev pub unread_line : BatchFormat → List ℕ → List ℕ
 unread_line Words label = label ++ codes "FAULT Read\n"
 unread_line Json label = unread_json label
-unread_line Junit label = unread_case label
+unread_line Junit label = unread_suite label
 
 -- the last note, where a text can't be read
 abbrev pub fault_text : Bool → List ℕ

@@ -39,7 +39,7 @@ pub enum BatchFormat {
     Words,
     /// As an object of JSON each, as `{"trace":1,"verdict":"violation"}`.
     Json,
-    /// As a document in JUnit's XML, with a test case for each trace.
+    /// As a document in JUnit's XML, with a suite of one test case for each trace.
     Junit,
 }
 

@@ -57,7 +57,8 @@ impl Batch {
     ///
     /// Faults: OutOfMemory where an allocation was refused; Read where the reader failed, was interrupted 1,048,576 times in
     /// a row, or gave 2^64 pieces with those before; Write where a writer failed, took no byte or was interrupted more
-    /// than 1,048,576 times in a line or a piece; NoThread where judging a piece needed a thread that the system refused.
+    /// than 1,048,576 times in a line or a piece; NoThread where judging a piece needed a thread that the system refused. It may
+    /// wait.
     pub fn judge<H: Threads + Wait + Sync, M: Meter, R: Read, W: Write, E: Write>(
         &mut self,
         rt: &H,
@@ -162,7 +163,7 @@ impl Batch {
 /// or `REFUSED` with name and line; or what its decision says: `CONSISTENT`, which a quiet batch leaves out, `VIOLATION`,
 /// `UNDECIDED` with the number of steps, or `REFUSED` with name and line. Where violations are to be printed, the texts of the pieces that are violations, as they
 /// came, stand in the place of all lines, and `errors` is told which traces they are and has the last line. In JSON each line is an object, with the
-/// verdict `violation`, `no_violation_found`, `consistent`, `undecided` or `refused`; in JUnit's XML it is a test case of one document.
+/// verdict `violation`, `no_violation_found`, `consistent`, `undecided` or `refused`; in JUnit's XML it is a suite of one document, with one test case.
 ///
 /// It is a batch of this one text, without a name: see `Batch` for what is kept of a piece, for the verdict and for the
 /// faults, with each of which a prefix of the texts was written. It may wait.

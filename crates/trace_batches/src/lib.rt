@@ -23,5 +23,6 @@ mod notes;
 mod nth_pieces;
 mod piece_readers;
 mod streams;
+mod suites;
 mod tallies;
 mod totals;

@@ -3,10 +3,11 @@ ghost use Rattle.std.specs.Prelude.{◌≡◌, ◌∷◌, ◌++◌, [], IfOk, co
 ghost use Rattle.std.specs.Fmt.{decimal};
 ghost use Rattle.trace_batches.specs.Batches.{head_text, is_left_out, last_format, note_format, written_line};
 ghost use Rattle.trace_batches.specs.Internal.Progress.{printing_by};
-ghost use Rattle.trace_batches.specs.BatchLines.{head_of, json_line, json_refusal, json_undecided, json_verdict, junit_case, junit_error, junit_line, junit_skipped, trace_line, word_line};
+ghost use Rattle.trace_batches.specs.BatchLines.{head_of, json_line, json_refusal, json_undecided, json_verdict, trace_line, word_line};
 
 use crate::batches::{BatchFormat, BatchPrinting, TextJudging};
 use crate::judgments::Judgment;
+use crate::suites::{JUNIT_HEAD, junit_line};
 use std::alloc::Global;
 use std::fmt::Write;
 use trace_judging::render_refusal;
@@ -34,13 +35,6 @@ fn head_of(format: BatchFormat) -> &'static str
         BatchFormat::Junit => JUNIT_HEAD,
     }
 }
-
-/// What stands before the test cases of a document.
-const JUNIT_HEAD: &str = "\
-<?xml version=\"1.0\" encoding=\"UTF-8\"?>
-<testsuites>
-<testsuite name=\"tsobench batch\">
-";
 
 /// The format of the last line, and of each note.
 pub(crate) fn last_format(printing: BatchPrinting) -> BatchFormat
@@ -207,67 +201,4 @@ fn json_undecided(
         "{{{label}\"trace\":{number},\"verdict\":\"undecided\",\"steps\":{steps}}}\n"
     )?;
     Ok(line)
-}
-
-/// The test case of the trace of this number.
-fn junit_line(
-    alloc: Global,
-    label: &str,
-    number: u64,
-    judgment: Judgment,
-) -> Result<String, OutOfMemory>
-    ensures { IfOk result (λ line. string_bytes line ≡ junit_line label.now number judgment) }
-{
-    match judgment {
-        Judgment::NoViolation | Judgment::Consistent => { junit_case(alloc, label, number, "/>") }
-        Judgment::Undecided(steps) => {
-            let end = junit_skipped(alloc, steps)?;
-            junit_case(alloc, label, number, end.as_str())
-        }
-        Judgment::Violation => junit_case(
-            alloc,
-            label,
-            number,
-            "><failure message=\"VIOLATION\"/></testcase>",
-        ),
-        Judgment::Refused(fault) => {
-            let end = junit_error(alloc, fault)?;
-            junit_case(alloc, label, number, end.as_str())
-        }
-    }
-}
-
-/// The test case of the trace of this number that has this end.
-fn junit_case(alloc: Global, label: &str, number: u64, end: &str) -> Result<String, OutOfMemory>
-    ensures { IfOk result (λ line. string_bytes line ≡ junit_case label.now number end.now) }
-{
-    let mut line = String::new(alloc);
-    write!(
-        line,
-        "<testcase classname=\"{label}\" name=\"trace {number}\"{end}\n"
-    )?;
-    Ok(line)
-}
-
-/// The end of the test case of a text that is refused for this fault.
-#[tactic(auto, unfolding(crate::specs::BatchLines::junit_error))]
-fn junit_error(alloc: Global, fault: TextFault) -> Result<String, OutOfMemory>
-    ensures { IfOk result (λ end. string_bytes end ≡ junit_error fault) }
-{
-    let why = fault.why.name();
-    let line = fault.line;
-    let mut end = String::new(alloc);
-    write!(
-        end,
-        "><error message=\"REFUSED {why} line {line}\"/></testcase>"
-    )?;
-    Ok(end)
-}
-
-/// The end of the test case of a trace that is undecided after so many steps.
-#[tactic(auto, unfolding(crate::specs::BatchLines::junit_skipped))]
-fn junit_skipped(alloc: Global, steps: u64) -> Result<String, OutOfMemory>
-    ensures { IfOk result (λ end. string_bytes end ≡ junit_skipped steps) }
-{
-    format!(in alloc; "><skipped message=\"UNDECIDED {steps}\"/></testcase>")
 }

@@ -1,10 +1,11 @@
 //! The line of a text that can't be read, and the note on a violation that is printed.
 ghost use Rattle.std.specs.Prelude.{◌≡◌, IfOk, string_bytes};
-ghost use Rattle.trace_batches.specs.BatchLines.{kept_json, kept_line, kept_words, unread_case, unread_json, unread_line};
+ghost use Rattle.trace_batches.specs.BatchLines.{kept_json, kept_line, kept_words, unread_json, unread_line};
 ghost use Rattle.trace_batches.specs.Batches.{last_format};
 
 use crate::batches::{BatchFormat, TextJudging};
 use crate::lines::last_format;
+use crate::suites::unread_suite;
 use std::alloc::Global;
 use tso_ops::OutOfMemory;
 
@@ -51,7 +52,7 @@ pub(crate) fn unread_line(
     match format {
         BatchFormat::Words => format!(in alloc; "{label}FAULT Read\n"),
         BatchFormat::Json => unread_json(alloc, label),
-        BatchFormat::Junit => unread_case(alloc, label),
+        BatchFormat::Junit => unread_suite(alloc, label),
     }
 }
 
@@ -61,14 +62,4 @@ fn unread_json(alloc: Global, label: &str) -> Result<String, OutOfMemory>
     ensures { IfOk result (λ line. string_bytes line ≡ unread_json label.now) }
 {
     format!(in alloc; "{{{label}\"fault\":\"Read\"}}\n")
-}
-
-/// That as a test case, which is an error.
-#[tactic(auto, unfolding(crate::specs::BatchLines::unread_case))]
-fn unread_case(alloc: Global, label: &str) -> Result<String, OutOfMemory>
-    ensures { IfOk result (λ line. string_bytes line ≡ unread_case label.now) }
-{
-    format!(in alloc;
-        "<testcase classname=\"{label}\" name=\"text\"><error message=\"FAULT Read\"/></testcase>\n"
-    )
 }

@@ -3,6 +3,7 @@ ghost use Rattle.std.specs.Prelude.{◌≡◌, ◌++◌, IfOk, codes, string_byt
 ghost use Rattle.trace_batches.specs.BatchLines.{decided_json, decided_words, few_line, judged_json, judged_words, total_json, total_text, total_words};
 
 use crate::batches::{BatchFormat, BatchMethod};
+use crate::suites::total_suite;
 use crate::tallies::Tally;
 use std::alloc::Global;
 use tso_ops::OutOfMemory;
@@ -24,7 +25,7 @@ pub(crate) fn total_line(
         BatchFormat::Json => total_json(alloc, method, tally),
         BatchFormat::Junit => {
             let words = total_words(alloc, method, tally)?;
-            format!(in alloc; "<system-out>{words}</system-out>\n</testsuite>\n</testsuites>\n")
+            total_suite(alloc, words.as_str())
         }
     }
 }

@@ -85,7 +85,7 @@ const TEXT: &str =
 
 /// Its document.
 const DOCUMENT: &str =
-    "<?xml version=\"1.0\" encoding=\"UTF-8\"?>\n<testsuites>\n<testsuite name=\"tsobench batch\">\n<testcase classname=\"batch\" name=\"trace 1\"/>\n<testcase classname=\"batch\" name=\"trace 2\"><failure message=\"VIOLATION\"/></testcase>\n<testcase classname=\"batch\" name=\"trace 3\"><error message=\"REFUSED BadNumber line 3\"/></testcase>\n<system-out>traces 3 violations 1 refused 1</system-out>\n</testsuite>\n</testsuites>\n";
+    "<?xml version=\"1.0\" encoding=\"UTF-8\"?>\n<testsuites>\n<testsuite name=\"batch trace 1\" tests=\"1\" failures=\"0\" errors=\"0\" skipped=\"0\"><testcase classname=\"batch\" name=\"trace 1\"/></testsuite>\n<testsuite name=\"batch trace 2\" tests=\"1\" failures=\"1\" errors=\"0\" skipped=\"0\"><testcase classname=\"batch\" name=\"trace 2\"><failure message=\"VIOLATION\"/></testcase></testsuite>\n<testsuite name=\"batch trace 3\" tests=\"1\" failures=\"0\" errors=\"1\" skipped=\"0\"><testcase classname=\"batch\" name=\"trace 3\"><error message=\"REFUSED BadNumber line 3\"/></testcase></testsuite>\n<testsuite name=\"tsobench batch\" tests=\"0\" failures=\"0\" errors=\"0\" skipped=\"0\"><system-out>traces 3 violations 1 refused 1</system-out></testsuite>\n</testsuites>\n";
 
 /// A refused text, and one that is a violation.
 const OTHER: &str = "tso trace 1\nld 1 9\nend\ntso trace 1\nproc\nld 2 7\nmb\nend\n";

@@ -192,7 +192,7 @@ pub(super) const CASES: [RequiredCase; 16] = [
             &[(None, "")],
             JUNIT,
             BatchVerdict::Undecided,
-            "<?xml version=\"1.0\" encoding=\"UTF-8\"?>\n<testsuites>\n<testsuite name=\"tsobench batch\">\n<system-out>traces 0 violations 0 refused 0</system-out>\n</testsuite>\n</testsuites>\n",
+            "<?xml version=\"1.0\" encoding=\"UTF-8\"?>\n<testsuites>\n<testsuite name=\"tsobench batch\" tests=\"0\" failures=\"0\" errors=\"0\" skipped=\"0\"><system-out>traces 0 violations 0 refused 0</system-out></testsuite>\n</testsuites>\n",
             "TOO FEW JUDGED 0 required 1\n",
         ),
     ),

@@ -163,7 +163,7 @@ pub(super) static CASES: [Case; 19] = [
         &[(None, STREAM)],
         QUIET_JUNIT,
         BatchVerdict::Violation,
-        "<?xml version=\"1.0\" encoding=\"UTF-8\"?>\n<testsuites>\n<testsuite name=\"tsobench batch\">\n<testcase classname=\"batch\" name=\"trace 2\"><failure message=\"VIOLATION\"/></testcase>\n<testcase classname=\"batch\" name=\"trace 3\"><error message=\"REFUSED BadNumber line 3\"/></testcase>\n<system-out>traces 3 violations 1 refused 1</system-out>\n</testsuite>\n</testsuites>\n",
+        "<?xml version=\"1.0\" encoding=\"UTF-8\"?>\n<testsuites>\n<testsuite name=\"batch trace 2\" tests=\"1\" failures=\"1\" errors=\"0\" skipped=\"0\"><testcase classname=\"batch\" name=\"trace 2\"><failure message=\"VIOLATION\"/></testcase></testsuite>\n<testsuite name=\"batch trace 3\" tests=\"1\" failures=\"0\" errors=\"1\" skipped=\"0\"><testcase classname=\"batch\" name=\"trace 3\"><error message=\"REFUSED BadNumber line 3\"/></testcase></testsuite>\n<testsuite name=\"tsobench batch\" tests=\"0\" failures=\"0\" errors=\"0\" skipped=\"0\"><system-out>traces 3 violations 1 refused 1</system-out></testsuite>\n</testsuites>\n",
         "",
     ),
     // beside texts of violations there is no document, and their numbers are in words
@@ -178,7 +178,7 @@ pub(super) static CASES: [Case; 19] = [
         &[(None, "")],
         JUNIT,
         BatchVerdict::NoViolation,
-        "<?xml version=\"1.0\" encoding=\"UTF-8\"?>\n<testsuites>\n<testsuite name=\"tsobench batch\">\n<system-out>traces 0 violations 0 refused 0</system-out>\n</testsuite>\n</testsuites>\n",
+        "<?xml version=\"1.0\" encoding=\"UTF-8\"?>\n<testsuites>\n<testsuite name=\"tsobench batch\" tests=\"0\" failures=\"0\" errors=\"0\" skipped=\"0\"><system-out>traces 0 violations 0 refused 0</system-out></testsuite>\n</testsuites>\n",
         "",
     ),
 ];

@@ -52,7 +52,7 @@ pub(super) static CASES: [Case; 10] = [
         &[(Some("a&b"), UNREAD), (Some("e"), TRACE)],
         JUNIT,
         BatchVerdict::Unread,
-        "<?xml version=\"1.0\" encoding=\"UTF-8\"?>\n<testsuites>\n<testsuite name=\"tsobench batch\">\n<testcase classname=\"a&amp;b\" name=\"text\"><error message=\"FAULT Read\"/></testcase>\n<testcase classname=\"e\" name=\"trace 1\"/>\n<system-out>traces 1 violations 0 refused 0</system-out>\n</testsuite>\n</testsuites>\n",
+        "<?xml version=\"1.0\" encoding=\"UTF-8\"?>\n<testsuites>\n<testsuite name=\"a&amp;b text\" tests=\"1\" failures=\"0\" errors=\"1\" skipped=\"0\"><testcase classname=\"a&amp;b\" name=\"text\"><error message=\"FAULT Read\"/></testcase></testsuite>\n<testsuite name=\"e trace 1\" tests=\"1\" failures=\"0\" errors=\"0\" skipped=\"0\"><testcase classname=\"e\" name=\"trace 1\"/></testsuite>\n<testsuite name=\"tsobench batch\" tests=\"0\" failures=\"0\" errors=\"0\" skipped=\"0\"><system-out>traces 1 violations 0 refused 0</system-out></testsuite>\n</testsuites>\n",
         "FAULT Read\n",
     ),
     // it comes before a violation, and a quiet batch doesn't leave it out
