@@ -38,43 +38,41 @@ pub(super) enum Kind {
     Meeting,
 }
 
-/// A unit of this kind.
-fn unit_of(alloc: Global, kind: Kind) -> Result<Boxed, OutOfMemory>
-    ensures { IfOk result (λ unit. (value_of unit).steps ≡ []) }
-{
-    match kind {
-        Kind::Serial | Kind::Meeting => Ok(Box::new(alloc, SerialUnit::new(alloc)?)?),
-        Kind::Buffer(capacity) => {
-            let unit = StoreBufferUnit::new(alloc, capacity.clamp(1, 64))?;
-            Ok(Box::new(alloc, unit)?)
-        }
-        Kind::Faulty(fault, trigger) => {
-            let unit = FaultyUnit::new(alloc, fault, trigger.max(1), 8)?;
-            Ok(Box::new(alloc, unit)?)
-        }
-        Kind::Inventing => Ok(Box::new(alloc, InventingUnit::new(alloc)?)?),
-        Kind::Refusing(call) => {
-            let unit = RefusingUnit::new(SerialUnit::new(alloc)?, call);
-            Ok(Box::new(alloc, unit)?)
-        }
-    }
-}
-
 /// A unit of this kind, whose calls are counted.
-fn counting_unit(
+fn unit_of(
     alloc: Global,
     kind: Kind,
     counts: &Arc<CallCounts, Global>,
 ) -> Result<Boxed, OutOfMemory>
     ensures { IfOk result (λ unit. (value_of unit).steps ≡ []) }
 {
-    let unit = unit_of(alloc, kind)?;
     let counts = Arc::try_clone(counts)?;
-    let counting = match kind {
-        Kind::Meeting => CountingUnit::waiting(unit, counts),
-        _ => CountingUnit::new(unit, counts),
-    };
-    Ok(Box::new(alloc, counting)?)
+    match kind {
+        Kind::Serial => {
+            let unit = SerialUnit::new(alloc)?;
+            Ok(Box::new(alloc, CountingUnit::new(unit, counts))?)
+        }
+        Kind::Buffer(capacity) => {
+            let unit = StoreBufferUnit::new(alloc, capacity.clamp(1, 64))?;
+            Ok(Box::new(alloc, CountingUnit::new(unit, counts))?)
+        }
+        Kind::Faulty(fault, trigger) => {
+            let unit = FaultyUnit::new(alloc, fault, trigger.max(1), 8)?;
+            Ok(Box::new(alloc, CountingUnit::new(unit, counts))?)
+        }
+        Kind::Inventing => {
+            let unit = InventingUnit::new(alloc)?;
+            Ok(Box::new(alloc, CountingUnit::new(unit, counts))?)
+        }
+        Kind::Refusing(call) => {
+            let unit = RefusingUnit::new(SerialUnit::new(alloc)?, call);
+            Ok(Box::new(alloc, CountingUnit::new(unit, counts))?)
+        }
+        Kind::Meeting => {
+            let unit = SerialUnit::new(alloc)?;
+            Ok(Box::new(alloc, CountingUnit::waiting(unit, counts))?)
+        }
+    }
 }
 
 /// How programs are executed and printed, of which memory model they are, and whether a meter hears of the seeds.
@@ -158,9 +156,9 @@ fn units_of(
     } else {
         there
     };
-    let first = counting_unit(alloc, first, first_counts)?;
-    let second = counting_unit(alloc, second, second_counts)?;
-    let third = counting_unit(alloc, third, third_counts)?;
+    let first = unit_of(alloc, first, first_counts)?;
+    let second = unit_of(alloc, second, second_counts)?;
+    let third = unit_of(alloc, third, third_counts)?;
     list_of(alloc, first, second, third)
 }
 
