@@ -10,10 +10,9 @@ use Rattle.std.proofs.Math.Seq.{take-append_seam}
 use Rattle.std.proofs.lemmas.Bool.{and_parts}
 use Rattle.std.proofs.lemmas.List.{append-nil, length-append, map-append, take-append-drop, take_more}
 use Rattle.std.proofs.lemmas.List.Sums.{sum_by-append, sum_by-cons}
-use Rattle.trace_batches.specs.declared.batches.BatchMethod.{BatchMethod}
 use Rattle.trace_batches.specs.declared.batches.BatchPrinting.{BatchPrinting}
 use Rattle.trace_batches.specs.declared.begun.Batch.{Batch}
-use Rattle.trace_batches.specs.Batches.{AreResults, AreResultsOf, BatchText, HasJudged, HasWritten, IsBatchFault, Judges, LeavesBatch, LeavesText, TextResults, WritesBatch, head_text, read_text, unread_text}
+use Rattle.trace_batches.specs.Batches.{AreResults, AreResultsOf, asked, BatchText, HasJudged, HasWritten, IsBatchFault, Judges, LeavesBatch, LeavesText, TextResults, WritesBatch, head_text, read_text, unread_text}
 use Rattle.trace_judging.specs.Streams.{AppendsPrefix}
 use Rattle.trace_batches.proofs.WholeFacts.{begun, head_left, judged_left, judged_more}
 use Rattle.trace_judging.specs.declared.faults.Fault.{Fault}
@@ -27,18 +26,18 @@ use Rattle.request_serving.proofs.EndFacts.{known_reads}
 -- ---- texts of files of which less may be known
 
 module _ (name : Option (List ℕ)) (known remaining : Option (List ℕ)) (has : HasKnown known remaining) where
-  results_of_known : (method : BatchMethod) (results : TextResults) → AreResultsOf method (read_text name remaining) results → AreResultsOf method (read_text name known) results
-  results_of_known method results are = (are.0, are.1, known_reads known remaining has (λ stream. AreResults method stream results.pieces results.judgments) are.2)
+  results_of_known : (printing : BatchPrinting) (results : TextResults) → AreResultsOf (asked printing) (read_text name remaining) results → AreResultsOf (asked printing) (read_text name known) results
+  results_of_known printing results are = (are.0, are.1, known_reads known remaining has (λ stream. AreResults (asked printing) stream results.pieces results.judgments) are.2)
 
   judges_known : (before after : Batch) (old new e f : Option (List ℕ)) → Judges (read_text name remaining) before after old new e f → Judges (read_text name known) before after old new e f
   judges_known before after old new e f judges printing all judged =
       let one = judges printing all judged in
-      (one.0, results_of_known printing.method one.0 one.1, one.2, one.3, one.4)
+      (one.0, results_of_known printing one.0 one.1, one.2, one.3, one.4)
 
   leaves_known : (before : Batch) (old new e f : Option (List ℕ)) → LeavesText (read_text name remaining) before old new e f → LeavesText (read_text name known) before old new e f
   leaves_known before old new e f left printing all judged =
       let one = left printing all judged in
-      (one.0, results_of_known printing.method one.0 one.1, one.2, one.3)
+      (one.0, results_of_known printing one.0 one.1, one.2, one.3)
 
 -- the text of an opened file, and of one that couldn't be opened
 module _ (name input : Option (List ℕ)) (files : List ℕ → Option (List ℕ)) (file : List ℕ) where

@@ -1,6 +1,6 @@
 -- What the program prints of campaigns.
 use Rattle.std.specs.Prelude.{◌≡◌, ◌⊎◌, ℕ, ◌+◌, ◌≤◌, ◌^◌, Bool, true, false, List, [], ◌∷◌, ◌++◌, codes, replicate, Option}
-use Rattle.tso_ops.specs.Making.{IsShape}
+use Rattle.drawn_programs.specs.Making.{IsShape}
 use Rattle.command_line.specs.declared.options.CampaignOptions.{CampaignOptions}
 use Rattle.tso_report.specs.Campaigns.{IsCampaign, LeavesOfSeeds}
 use Rattle.tso_report.specs.declared.campaigns.CampaignPlan.{CampaignPlan}

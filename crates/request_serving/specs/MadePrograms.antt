@@ -1,6 +1,6 @@
 -- What the program prints of the program that is made from a seed, or of its schedule.
 use Rattle.std.specs.Prelude.{◌≡◌, ◌⊎◌, ℕ, List, [], ◌∷◌, ◌++◌, codes, Option, if◌then◌else◌}
-use Rattle.tso_ops.specs.Making.{IsShape, ShapeValue, shape_of}
+use Rattle.drawn_programs.specs.Making.{IsShape, ShapeValue, shape_of}
 use Rattle.tso_text.specs.Printed.{program_text, schedule_text}
 use Rattle.command_line.specs.declared.options.MakeOptions.{MakeOptions}
 use Rattle.command_line.specs.declared.options.ShapeNumbers.{ShapeNumbers}

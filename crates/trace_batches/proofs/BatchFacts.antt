@@ -12,10 +12,10 @@ use Rattle.trace_reports.specs.Readings.{ReadsAs}
 use Rattle.trace_judging.specs.Limits.{trace_read_limit}
 use Rattle.trace_judging.specs.Streams.{AppendsPrefix}
 use Rattle.trace_reports.proofs.ReadingFacts.{reads_whole}
-use Rattle.trace_batches.specs.declared.batches.BatchMethod.{BatchMethod}
 use Rattle.trace_batches.specs.declared.judgments.Judgment.{Judgment}
+use Rattle.trace_batches.specs.declared.questions.Question.{Question}
 use Rattle.trace_batches.specs.declared.tallies.Tally.{Tally}
-use Rattle.trace_batches.specs.Batches.{AreResults, Counts, TextPrinting, count_violations, pieces_notes, pieces_text}
+use Rattle.trace_batches.specs.Batches.{AreResults, asked, Counts, TextPrinting, count_violations, pieces_notes, pieces_text}
 use Rattle.trace_batches.specs.Judgments.{AreJudgments}
 use Rattle.trace_batches.specs.Internal.Progress.{LeavesPieces, Stands, Told, WroteAll, WroteSome}
 use Rattle.trace_batches.proofs.JobFacts.{AreJudgments-append, kept_texts, pieces_notes-append, pieces_text-append}
@@ -26,19 +26,19 @@ use Rattle.trace_judging.proofs.StreamFacts.{prefix_after, prefix_of_more, whole
 
 -- a prefix of what is printed of the first pieces
 of_reader : (way : TextPrinting) (kept : ℕ) (remaining old new before errors : Option (List ℕ)) (stream : List ℕ) (told untold : List (List ℕ)) (judgments : List Judgment) →
-    IfSome remaining (λ bytes. stream ≡ bytes) → ArePieces stream (told ++ untold) → AreJudgments way.printing.method told judgments → AppendsPrefix old new (pieces_text way 1 told judgments) →
+    IfSome remaining (λ bytes. stream ≡ bytes) → ArePieces stream (told ++ untold) → AreJudgments (asked way.printing) told judgments → AppendsPrefix old new (pieces_text way 1 told judgments) →
     AppendsPrefix before errors (pieces_notes way kept 1 judgments) → LeavesPieces way kept remaining old new before errors
 of_reader way kept remaining old new before errors stream told untold judgments all are_pieces are_judgments written noted =
-    let more = some_judgments way.printing.method untold in
+    let more = some_judgments (asked way.printing) untold in
     let pieces = told ++ untold in
     let whole = judgments ++ more.0 in
     let first = pieces_text way 1 told judgments in
     let others = pieces_text way (1 + length judgments) untold more.0 in
     let notes = pieces_notes way (kept + count_violations judgments) (1 + length judgments) more.0 in
-    let are : AreResults way.printing.method stream pieces whole = record { are_pieces = are_pieces; are_judgments = AreJudgments-append way.printing.method told untold judgments more.0 are_judgments more.1 } in (
+    let are : AreResults (asked way.printing) stream pieces whole = record { are_pieces = are_pieces; are_judgments = AreJudgments-append (asked way.printing) told untold judgments more.0 are_judgments more.1 } in (
       pieces,
       whole,
-      reads_whole (λ s. AreResults way.printing.method s pieces whole) remaining stream all are,
+      reads_whole (λ s. AreResults (asked way.printing) s pieces whole) remaining stream all are,
       subst (AppendsPrefix old new) (sym (pieces_text-append way 1 told untold judgments more.0 are_judgments)) (prefix_of_more old new first others written),
       subst (AppendsPrefix before errors) (sym (pieces_notes-append way kept 1 judgments more.0)) (prefix_of_more before errors (pieces_notes way kept 1 judgments) notes noted),
     )
@@ -50,7 +50,7 @@ later_of (Some all) None bytes taken = absurd taken
 later_of (Some all) (Some rest) bytes taken = (rest, sym taken)
 
 left_of_reader : (way : TextPrinting) (kept : ℕ) (remaining now old new before errors : Option (List ℕ)) (bytes rest : List ℕ) (told untold : List (List ℕ)) (judgments : List Judgment) →
-    Consumes remaining now bytes → IsSplit bytes (told ++ untold) rest → AreJudgments way.printing.method told judgments → AppendsPrefix old new (pieces_text way 1 told judgments) →
+    Consumes remaining now bytes → IsSplit bytes (told ++ untold) rest → AreJudgments (asked way.printing) told judgments → AppendsPrefix old new (pieces_text way 1 told judgments) →
     AppendsPrefix before errors (pieces_notes way kept 1 judgments) → LeavesPieces way kept remaining old new before errors
 left_of_reader way kept remaining now old new before errors bytes rest told untold judgments taken cut are_judgments written noted =
     let later = later_of remaining now bytes taken in
@@ -93,7 +93,7 @@ next_piece : (tally : Tally) (judgments : List Judgment) → Counts tally judgme
 next_piece tally judgments counts = let traces = counts.traces in omega (arith, traces)
 
 -- what is printed of more pieces
-texts_after : (way : TextPrinting) (tally : Tally) (pieces others : List (List ℕ)) (judgments more : List Judgment) → Counts tally judgments → AreJudgments way.printing.method pieces judgments →
+texts_after : (way : TextPrinting) (tally : Tally) (pieces others : List (List ℕ)) (judgments more : List Judgment) → Counts tally judgments → AreJudgments (asked way.printing) pieces judgments →
     pieces_text way 1 pieces judgments ++ pieces_text way (suc tally.traces) others more ≡ pieces_text way 1 (pieces ++ others) (judgments ++ more)
 texts_after way tally pieces others judgments more counts are =
     ap (λ n. pieces_text way 1 pieces judgments ++ pieces_text way n others more) (next_piece tally judgments counts) ∙ sym (pieces_text-append way 1 pieces others judgments more are)
@@ -127,25 +127,25 @@ some_firsts_are : (limit count : ℕ) (pieces : List (Vec ℕ)) (ended : List (L
 some_firsts_are limit count pieces ended limit_is are_rows = ap (take count) (firsts_are limit pieces ended limit_is are_rows) ∙ take-map (λ piece. take trace_read_limit piece) count ended
 
 -- what is said and printed of what was kept of pieces is said and printed of them
-said_of_kept : (method : BatchMethod) (kept pieces : List (List ℕ)) (judgments : List Judgment) → kept ≡ firsts pieces → AreJudgments method kept judgments → AreJudgments method pieces judgments
-said_of_kept method kept pieces judgments same are = judgments_of_firsts method pieces judgments (subst (λ ps. AreJudgments method ps judgments) same are)
+said_of_kept : (question : Question) (kept pieces : List (List ℕ)) (judgments : List Judgment) → kept ≡ firsts pieces → AreJudgments question kept judgments → AreJudgments question pieces judgments
+said_of_kept question kept pieces judgments same are = judgments_of_firsts question pieces judgments (subst (λ ps. AreJudgments question ps judgments) same are)
 
-printed_of_kept : (way : TextPrinting) (number : ℕ) (kept pieces : List (List ℕ)) (judgments : List Judgment) → kept ≡ firsts pieces → AreJudgments way.printing.method kept judgments →
+printed_of_kept : (way : TextPrinting) (number : ℕ) (kept pieces : List (List ℕ)) (judgments : List Judgment) → kept ≡ firsts pieces → AreJudgments (asked way.printing) kept judgments →
     pieces_text way number kept judgments ≡ pieces_text way number pieces judgments
 printed_of_kept way number kept pieces judgments same are =
-    ap (λ ps. pieces_text way number ps judgments) same ∙ kept_texts way number pieces judgments (said_of_kept way.printing.method kept pieces judgments same are)
+    ap (λ ps. pieces_text way number ps judgments) same ∙ kept_texts way number pieces judgments (said_of_kept (asked way.printing) kept pieces judgments same are)
 
 -- more pieces were printed, or a prefix of this, of which this was kept
-written_more : (way : TextPrinting) (tally : Tally) (pieces kept others : List (List ℕ)) (judgments more : List Judgment) (old mid new : Option (List ℕ)) → Counts tally judgments → AreJudgments way.printing.method pieces judgments →
-    kept ≡ firsts others → AreJudgments way.printing.method kept more → Appends old mid (pieces_text way 1 pieces judgments) → Appends mid new (pieces_text way (suc tally.traces) kept more) →
+written_more : (way : TextPrinting) (tally : Tally) (pieces kept others : List (List ℕ)) (judgments more : List Judgment) (old mid new : Option (List ℕ)) → Counts tally judgments → AreJudgments (asked way.printing) pieces judgments →
+    kept ≡ firsts others → AreJudgments (asked way.printing) kept more → Appends old mid (pieces_text way 1 pieces judgments) → Appends mid new (pieces_text way (suc tally.traces) kept more) →
     Appends old new (pieces_text way 1 (pieces ++ others) (judgments ++ more))
 written_more way tally pieces kept others judgments more old mid new counts are same also first second =
     subst (Appends old new) (texts_after way tally pieces others judgments more counts are)
     (Appends-trans old mid new (pieces_text way 1 pieces judgments) (pieces_text way (suc tally.traces) others more) first
     (subst (Appends mid new) (printed_of_kept way (suc tally.traces) kept others more same also) second))
 
-prefix_more : (way : TextPrinting) (tally : Tally) (pieces kept others : List (List ℕ)) (judgments more : List Judgment) (old mid new : Option (List ℕ)) → Counts tally judgments → AreJudgments way.printing.method pieces judgments →
-    kept ≡ firsts others → AreJudgments way.printing.method kept more → Appends old mid (pieces_text way 1 pieces judgments) → AppendsPrefix mid new (pieces_text way (suc tally.traces) kept more) →
+prefix_more : (way : TextPrinting) (tally : Tally) (pieces kept others : List (List ℕ)) (judgments more : List Judgment) (old mid new : Option (List ℕ)) → Counts tally judgments → AreJudgments (asked way.printing) pieces judgments →
+    kept ≡ firsts others → AreJudgments (asked way.printing) kept more → Appends old mid (pieces_text way 1 pieces judgments) → AppendsPrefix mid new (pieces_text way (suc tally.traces) kept more) →
     AppendsPrefix old new (pieces_text way 1 (pieces ++ others) (judgments ++ more))
 prefix_more way tally pieces kept others judgments more old mid new counts are same also first second =
     subst (AppendsPrefix old new) (texts_after way tally pieces others judgments more counts are)
@@ -169,7 +169,7 @@ chunk_told way number remaining before now old mid new e f g cutter after tally 
       limit = c.limit ∙ s.limit;
       at = c.now;
       judgments = s.judgments ++ wrote.judgments;
-      are_judgments = AreJudgments-append way.printing.method s.ended c.ended s.judgments wrote.judgments s.are_judgments (said_of_kept way.printing.method (rows pieces) c.ended wrote.judgments kept are);
+      are_judgments = AreJudgments-append (asked way.printing) s.ended c.ended s.judgments wrote.judgments s.are_judgments (said_of_kept (asked way.printing) (rows pieces) c.ended wrote.judgments kept are);
       counts = wrote.counts s.judgments s.counts;
       written = written_more way tally s.ended (rows pieces) c.ended s.judgments wrote.judgments old mid new s.counts s.are_judgments kept are s.written wrote.written;
       noted = noted_more way number tally s.judgments wrote.judgments e f g s.counts s.noted wrote.noted;
@@ -188,7 +188,7 @@ chunk_left way number remaining before now old mid new e f g cutter after tally 
     let same : s.ended ++ c.ended ≡ (s.ended ++ told) ++ untold = ap (λ es. s.ended ++ es) (sym (take-append-drop wrote.count c.ended)) ∙ sym (append_assoc s.ended told untold) in
     left_of_reader way number remaining now old new e g (s.bytes ++ chunk) c.rest (s.ended ++ told) untold (s.judgments ++ wrote.judgments) (Consumes-trans remaining before now s.bytes chunk s.taken taken)
     (subst (λ es. IsSplit (s.bytes ++ chunk) es c.rest) same (cut_joined s.bytes chunk s.rest c.rest s.ended c.ended s.cut c.cut))
-    (AreJudgments-append way.printing.method s.ended told s.judgments wrote.judgments s.are_judgments (said_of_kept way.printing.method (take wrote.count (rows pieces)) told wrote.judgments kept are))
+    (AreJudgments-append (asked way.printing) s.ended told s.judgments wrote.judgments s.are_judgments (said_of_kept (asked way.printing) (take wrote.count (rows pieces)) told wrote.judgments kept are))
     (prefix_more way tally s.ended (take wrote.count (rows pieces)) told s.judgments wrote.judgments old mid new s.counts s.are_judgments kept are s.written wrote.written)
     (some_noted_more way number tally s.judgments wrote.judgments e f g s.counts s.noted wrote.noted)
 
@@ -260,7 +260,7 @@ last_told way number remaining now old mid new e f g cutter tally counted pieces
       judgments = s.judgments ++ wrote.judgments;
       are_results = record {
         are_pieces = pieces_at_end s.bytes s.rest s.ended s.cut;
-        are_judgments = AreJudgments-append way.printing.method s.ended (last_piece s.rest) s.judgments wrote.judgments s.are_judgments (said_of_kept way.printing.method (rows pieces) (last_piece s.rest) wrote.judgments kept are);
+        are_judgments = AreJudgments-append (asked way.printing) s.ended (last_piece s.rest) s.judgments wrote.judgments s.are_judgments (said_of_kept (asked way.printing) (rows pieces) (last_piece s.rest) wrote.judgments kept are);
       };
       counts = wrote.counts s.judgments s.counts;
       written = written_more way tally s.ended (rows pieces) (last_piece s.rest) s.judgments wrote.judgments old mid new s.counts s.are_judgments kept are s.written wrote.written;
@@ -280,7 +280,7 @@ last_left way number remaining now old mid new e f g cutter tally pieces s end l
     ap (λ es. s.ended ++ es) (sym (take-append-drop wrote.count (last_piece s.rest))) ∙ sym (append_assoc s.ended told untold) in
     of_reader way number remaining old new e g s.bytes (s.ended ++ told) untold (s.judgments ++ wrote.judgments) (all_read remaining now s.bytes s.taken end)
     (subst (ArePieces s.bytes) same (pieces_at_end s.bytes s.rest s.ended s.cut))
-    (AreJudgments-append way.printing.method s.ended told s.judgments wrote.judgments s.are_judgments (said_of_kept way.printing.method (take wrote.count (rows pieces)) told wrote.judgments kept are))
+    (AreJudgments-append (asked way.printing) s.ended told s.judgments wrote.judgments s.are_judgments (said_of_kept (asked way.printing) (take wrote.count (rows pieces)) told wrote.judgments kept are))
     (prefix_more way tally s.ended (take wrote.count (rows pieces)) told s.judgments wrote.judgments old mid new s.counts s.are_judgments kept are s.written wrote.written)
     (some_noted_more way number tally s.judgments wrote.judgments e f g s.counts s.noted wrote.noted)
 
@@ -288,5 +288,5 @@ last_left way number remaining now old mid new e f g cutter tally pieces s end l
 
 -- what was told
 pub told_results : (way : TextPrinting) (kept : ℕ) (remaining old new e f : Option (List ℕ)) (tally : Tally) (t : Told way kept remaining old new e f tally) →
-    ReadsAs remaining (λ stream. AreResults way.printing.method stream t.pieces t.judgments)
-told_results way kept remaining old new e f tally t = reads_whole (λ s. AreResults way.printing.method s t.pieces t.judgments) remaining t.stream t.all t.are_results
+    ReadsAs remaining (λ stream. AreResults (asked way.printing) stream t.pieces t.judgments)
+told_results way kept remaining old new e f tally t = reads_whole (λ s. AreResults (asked way.printing) s t.pieces t.judgments) remaining t.stream t.all t.are_results

@@ -13,11 +13,11 @@ use Rattle.trace_judging.specs.declared.faults.Fault.{Fault}
 use Rattle.trace_judging.specs.declared.faults.Fault.TheVariants.{NoThread}
 use Rattle.trace_judging.specs.Streams.{AppendsPrefix}
 use Rattle.trace_batches.specs.declared.jobs.Job.{Job}
-use Rattle.trace_batches.specs.declared.batches.BatchMethod.{BatchMethod}
 use Rattle.trace_batches.specs.declared.judgments.Judgment.{Judgment}
 use Rattle.trace_batches.specs.declared.judgments.Judgment.TheVariants.{NoViolation, Violation, Consistent, Undecided, Refused}
+use Rattle.trace_batches.specs.declared.questions.Question.{Question}
 use Rattle.trace_batches.specs.declared.tallies.Tally.{Tally}
-use Rattle.trace_batches.specs.Batches.{Counts, IsBatchFault, TextPrinting, count_violations, kept_with, piece_note, piece_text, pieces_notes, pieces_text}
+use Rattle.trace_batches.specs.Batches.{asked, Counts, IsBatchFault, TextPrinting, count_violations, kept_with, piece_note, piece_text, pieces_notes, pieces_text}
 use Rattle.trace_batches.specs.Judgments.{AreJudgments, IsJudgment, says_violation}
 use Rattle.trace_batches.specs.Internal.Progress.{AreJudged, IsJobOf, IsOutcome, WroteAll, WroteSome}
 use Rattle.trace_batches.proofs.JudgmentFacts.{firsts, kept_violation}
@@ -26,14 +26,14 @@ use Rattle.trace_judging.proofs.StreamFacts.{prefix_after, whole_written}
 
 -- ---- judgments
 
-pub AreJudgments-append : (method : BatchMethod) (ps qs : List (List ℕ)) (rs ss : List Judgment) → AreJudgments method ps rs → AreJudgments method qs ss → AreJudgments method (ps ++ qs) (rs ++ ss)
-AreJudgments-append method [] qs [] ss first second = second
-AreJudgments-append method (p ∷ ps) qs (r ∷ rs) ss first second = (first.0, AreJudgments-append method ps qs rs ss first.1 second)
-AreJudgments-append method ps qs rs ss first second = absurd first
+pub AreJudgments-append : (question : Question) (ps qs : List (List ℕ)) (rs ss : List Judgment) → AreJudgments question ps rs → AreJudgments question qs ss → AreJudgments question (ps ++ qs) (rs ++ ss)
+AreJudgments-append question [] qs [] ss first second = second
+AreJudgments-append question (p ∷ ps) qs (r ∷ rs) ss first second = (first.0, AreJudgments-append question ps qs rs ss first.1 second)
+AreJudgments-append question ps qs rs ss first second = absurd first
 
-pub AreJudgments-push : (method : BatchMethod) (ps : List (List ℕ)) (rs : List Judgment) (p : List ℕ) (r : Judgment) → AreJudgments method ps rs → IsJudgment method p r →
-    AreJudgments method (ps ++ p ∷ []) (rs ++ r ∷ [])
-AreJudgments-push method ps rs p r first last = AreJudgments-append method ps (p ∷ []) rs (r ∷ []) first (last, tt)
+pub AreJudgments-push : (question : Question) (ps : List (List ℕ)) (rs : List Judgment) (p : List ℕ) (r : Judgment) → AreJudgments question ps rs → IsJudgment question p r →
+    AreJudgments question (ps ++ p ∷ []) (rs ++ r ∷ [])
+AreJudgments-push question ps rs p r first last = AreJudgments-append question ps (p ∷ []) rs (r ∷ []) first (last, tt)
 
 -- the pieces of new jobs
 pieces_of : (pieces : List (Vec ℕ)) → map (λ (job : Job). job.piece.items) (map (λ piece. record { piece = piece; outcome = Err NoThread }) pieces) ≡ rows pieces
@@ -41,17 +41,17 @@ pieces_of [] = refl
 pieces_of (piece ∷ pieces) = ap (λ rest. piece.items ∷ rest) (pieces_of pieces)
 
 -- all of them, which were new, were done
-pub judged_all : (method : BatchMethod) (pieces : List (Vec ℕ)) (jobs done : List Job) (n : ℕ) → n ≡ length jobs → jobs ≡ map (λ piece. record { piece = piece; outcome = Err NoThread }) pieces →
-    AreJudged method (map (λ (job : Job). job.piece.items) jobs) done → AreJudged method (rows pieces) (take n (done ++ drop (length done) jobs))
-judged_all method pieces jobs done n count new judged =
+pub judged_all : (question : Question) (pieces : List (Vec ℕ)) (jobs done : List Job) (n : ℕ) → n ≡ length jobs → jobs ≡ map (λ piece. record { piece = piece; outcome = Err NoThread }) pieces →
+    AreJudged question (map (λ (job : Job). job.piece.items) jobs) done → AreJudged question (rows pieces) (take n (done ++ drop (length done) jobs))
+judged_all question pieces jobs done n count new judged =
     let given : map (λ (job : Job). job.piece.items) jobs ≡ rows pieces = ap (map (λ (job : Job). job.piece.items)) new ∙ pieces_of pieces in
     let all : n ≡ length done = count ∙ sym (length-map jobs (λ (job : Job). job.piece.items)) ∙ sym judged.one_each in
     let whole : take n (done ++ drop (length done) jobs) ≡ done = ap (λ m. take m (done ++ drop (length done) jobs)) all ∙ take-append_seam done (drop (length done) jobs) in
-    subst (AreJudged method (rows pieces)) (sym whole) (subst (λ ps. AreJudged method ps done) given judged)
+    subst (AreJudged question (rows pieces)) (sym whole) (subst (λ ps. AreJudged question ps done) given judged)
 
 -- ---- what is printed
 
-pub pieces_text-append : (way : TextPrinting) (number : ℕ) (ps qs : List (List ℕ)) (rs ss : List Judgment) → AreJudgments way.printing.method ps rs →
+pub pieces_text-append : (way : TextPrinting) (number : ℕ) (ps qs : List (List ℕ)) (rs ss : List Judgment) → AreJudgments (asked way.printing) ps rs →
     pieces_text way number (ps ++ qs) (rs ++ ss) ≡ pieces_text way number ps rs ++ pieces_text way (number + length rs) qs ss
 pieces_text-append way number [] qs [] ss are = ap (λ n. pieces_text way n qs ss) (omega arith)
 pieces_text-append way number (p ∷ ps) qs (r ∷ rs) ss are =
@@ -60,7 +60,7 @@ pieces_text-append way number (p ∷ ps) qs (r ∷ rs) ss are =
     ∙ ap (λ n. (piece_text way number p r ++ pieces_text way (suc number) ps rs) ++ pieces_text way n qs ss) (omega arith)
 pieces_text-append way number ps qs rs ss are = absurd are
 
-pieces_text-push : (way : TextPrinting) (number : ℕ) (ps : List (List ℕ)) (rs : List Judgment) (p : List ℕ) (r : Judgment) → AreJudgments way.printing.method ps rs →
+pieces_text-push : (way : TextPrinting) (number : ℕ) (ps : List (List ℕ)) (rs : List Judgment) (p : List ℕ) (r : Judgment) → AreJudgments (asked way.printing) ps rs →
     pieces_text way number (ps ++ p ∷ []) (rs ++ r ∷ []) ≡ pieces_text way number ps rs ++ piece_text way (number + length rs) p r
 pieces_text-push way number ps rs p r are =
     pieces_text-append way number ps (p ∷ []) rs (r ∷ []) are ∙ ap (λ t. pieces_text way number ps rs ++ t) (append-nil (piece_text way (number + length rs) p r))
@@ -119,14 +119,14 @@ next_kept kept before mid n r so_far =
 -- ---- what was kept of pieces
 
 -- of the first bytes of a piece the same is printed as of the piece: all of a violation is kept
-kept_text : (way : TextPrinting) (number : ℕ) (p : List ℕ) (r : Judgment) → IsJudgment way.printing.method p r → piece_text way number (take trace_read_limit p) r ≡ piece_text way number p r
+kept_text : (way : TextPrinting) (number : ℕ) (p : List ℕ) (r : Judgment) → IsJudgment (asked way.printing) p r → piece_text way number (take trace_read_limit p) r ≡ piece_text way number p r
 kept_text way number p NoViolation is = refl
 kept_text way number p Consistent is = refl
 kept_text way number p (Undecided steps) is = refl
-kept_text way number p Violation is = ap (λ bytes. piece_text way number bytes Violation) (kept_violation way.printing.method p is)
+kept_text way number p (Violation body) is = ap (λ bytes. piece_text way number bytes (Violation body)) (kept_violation (asked way.printing) p body is)
 kept_text way number p (Refused fault) is = refl
 
-pub kept_texts : (way : TextPrinting) (number : ℕ) (ps : List (List ℕ)) (rs : List Judgment) → AreJudgments way.printing.method ps rs → pieces_text way number (firsts ps) rs ≡ pieces_text way number ps rs
+pub kept_texts : (way : TextPrinting) (number : ℕ) (ps : List (List ℕ)) (rs : List Judgment) → AreJudgments (asked way.printing) ps rs → pieces_text way number (firsts ps) rs ≡ pieces_text way number ps rs
 kept_texts way number [] [] are = refl
 kept_texts way number (p ∷ ps) (r ∷ rs) are =
     ap (λ t. t ++ pieces_text way (suc number) (firsts ps) rs) (kept_text way number p r are.0) ∙ ap (λ t. piece_text way number p r ++ t) (kept_texts way (suc number) ps rs are.1)
@@ -152,7 +152,7 @@ wrote_none way kept tally a e = record {
 
 -- one more
 pub wrote_more : (way : TextPrinting) (kept : ℕ) (before mid after : Tally) (pieces : List (List ℕ)) (piece : List ℕ) (judgment : Judgment) (a b c e f g : Option (List ℕ)) →
-    WroteAll way kept before mid pieces a b e f → IsJudgment way.printing.method piece judgment → ((judgments : List Judgment) → Counts mid judgments → Counts after (judgments ++ judgment ∷ [])) →
+    WroteAll way kept before mid pieces a b e f → IsJudgment (asked way.printing) piece judgment → ((judgments : List Judgment) → Counts mid judgments → Counts after (judgments ++ judgment ∷ [])) →
     after.traces ≡ mid.traces + 1 → after.violations ≡ kept_with mid.violations judgment → Appends b c (piece_text way (mid.traces + 1) piece judgment) →
     Appends f g (piece_note way (kept + kept_with mid.violations judgment) (mid.traces + 1) judgment) → WroteAll way kept before after (pieces ++ piece ∷ []) a c e g
 wrote_more way kept before mid after pieces piece judgment a b c e f g so_far is counted more also text note =
@@ -166,7 +166,7 @@ wrote_more way kept before mid after pieces piece judgment a b c e f g so_far is
     let one = so_far.traces in
     record {
       judgments = so_far.judgments ++ judgment ∷ [];
-      are_judgments = AreJudgments-push way.printing.method pieces so_far.judgments piece judgment so_far.are_judgments is;
+      are_judgments = AreJudgments-push (asked way.printing) pieces so_far.judgments piece judgment so_far.are_judgments is;
       counts = λ earlier counts. subst (Counts after) (append_assoc earlier so_far.judgments (judgment ∷ [])) (counted (earlier ++ so_far.judgments) (so_far.counts earlier counts));
       traces = omega (arith, more, count, one);
       violations = omega (arith, also, some, push, here, there);
@@ -196,7 +196,7 @@ wrote_before way kept before mid pieces i a b e f so_far = record {
 
 -- a fault in what is printed of it
 pub wrote_some : (way : TextPrinting) (kept : ℕ) (before mid : Tally) (pieces : List (List ℕ)) (i : ℕ) (judgment : Judgment) (a b c e f g : Option (List ℕ)) → i < length pieces →
-    WroteAll way kept before mid (take i pieces) a b e f → IsJudgment way.printing.method (get_or pieces i []) judgment → AppendsPrefix b c (piece_text way (mid.traces + 1) (get_or pieces i []) judgment) →
+    WroteAll way kept before mid (take i pieces) a b e f → IsJudgment (asked way.printing) (get_or pieces i []) judgment → AppendsPrefix b c (piece_text way (mid.traces + 1) (get_or pieces i []) judgment) →
     AppendsPrefix f g (piece_note way (kept + kept_with mid.violations judgment) (mid.traces + 1) judgment) → WroteSome way kept before pieces a c e g
 wrote_some way kept before mid pieces i judgment a b c e f g inside so_far is text note =
     let others = so_far.judgments in
@@ -207,7 +207,7 @@ wrote_some way kept before mid pieces i judgment a b c e f g inside so_far is te
     record {
       count = i + 1;
       judgments = judgments;
-      are_judgments = subst (λ ps. AreJudgments way.printing.method ps judgments) same (AreJudgments-push way.printing.method (take i pieces) so_far.judgments piece judgment so_far.are_judgments is);
+      are_judgments = subst (λ ps. AreJudgments (asked way.printing) ps judgments) same (AreJudgments-push (asked way.printing) (take i pieces) so_far.judgments piece judgment so_far.are_judgments is);
       written =
           subst (AppendsPrefix a c)
           (ap (λ n. pieces_text way (suc before.traces) (take i pieces) so_far.judgments ++ piece_text way n piece judgment) (sym number)
@@ -225,18 +225,18 @@ wrote_some way kept before mid pieces i judgment a b c e f g inside so_far is te
 -- ---- the jobs
 
 -- what judging a piece gave is its outcome
-pub outcome_of : (method : BatchMethod) (piece : List ℕ) (outcome : Result Judgment Fault) → IfOk outcome (IsJudgment method piece) → IfErr outcome IsBatchFault → IsOutcome method piece outcome
-outcome_of method piece (Ok judgment) said fault = said
-outcome_of method piece (Err why) said fault = fault
+pub outcome_of : (question : Question) (piece : List ℕ) (outcome : Result Judgment Fault) → IfOk outcome (IsJudgment question piece) → IfErr outcome IsBatchFault → IsOutcome question piece outcome
+outcome_of question piece (Ok judgment) said fault = said
+outcome_of question piece (Err why) said fault = fault
 
 -- each judged its piece
-pub judged_each : (method : BatchMethod) (old new : List Job) → length new ≡ length old → ((i : ℕ) (d : Job) → i < length old → IsJobOf method (get_or old i d).piece.items (get_or new i d)) →
-    AreJudged method (map (λ (job : Job). job.piece.items) old) new
-judged_each method old new same each =
+pub judged_each : (question : Question) (old new : List Job) → length new ≡ length old → ((i : ℕ) (d : Job) → i < length old → IsJobOf question (get_or old i d).piece.items (get_or new i d)) →
+    AreJudged question (map (λ (job : Job). job.piece.items) old) new
+judged_each question old new same each =
     let piece_in : Job → List ℕ = λ job. job.piece.items in
     record {
       one_each = same ∙ sym (length-map old piece_in);
       each = λ i d below.
           let within = subst (λ n. i < n) (length-map old piece_in) below in
-          subst (λ piece. IsJobOf method piece (get_or new i d)) (sym (get_or-map piece_in old i d [] within)) (each i d within);
+          subst (λ piece. IsJobOf question piece (get_or new i d)) (sym (get_or-map piece_in old i d [] within)) (each i d within);
     }

@@ -3,45 +3,45 @@ use Rattle.std.proofs.Common.{◌≡◌, ℕ, ◌+◌, Bool, true, false, ◌||�
 use Rattle.std.specs.Prelude.{Option}
 use Rattle.std.proofs.lemmas.List.{append-nil}
 use Rattle.trace_reports.proofs.ReadingFacts.{reads_whole}
-use Rattle.trace_batches.specs.declared.batches.BatchMethod.{BatchMethod}
 use Rattle.trace_batches.specs.declared.batches.BatchMethod.TheVariants.{Judge}
 use Rattle.trace_batches.specs.declared.batches.BatchPrinting.{BatchPrinting}
 use Rattle.trace_batches.specs.declared.judgments.Judgment.{Judgment}
+use Rattle.trace_batches.specs.declared.questions.Question.{Question}
 use Rattle.trace_batches.specs.Batches.{AreFound, AreResults, AreResultsOf, AreResultsOfAll, BatchText, TextResults, all_judgments, any_unread, count_violations, known_texts, next_notes, read_text, results_notes, results_notes_of_all, results_text, results_texts}
-use Rattle.trace_batches.specs.Judgments.{AreJudgments}
+use Rattle.trace_batches.specs.Judgments.{AreJudgments, asking}
 use Rattle.trace_batches.proofs.JobFacts.{violations-append}
 use Rattle.trace_batches.proofs.JudgmentFacts.{one_list_of_judgments, some_judgments}
 use Rattle.trace_batches.proofs.PieceFacts.{one_list_of_pieces, some_pieces}
 
-pub results-append : (method : BatchMethod) (texts more : List BatchText) (all others : List TextResults) → AreResultsOfAll method texts all → AreResultsOfAll method more others →
-    AreResultsOfAll method (texts ++ more) (all ++ others)
-results-append method [] more [] others first second = second
-results-append method (text ∷ texts) more (results ∷ all) others first second = (first.0, results-append method texts more all others first.1 second)
-results-append method texts more all others first second = absurd first
+pub results-append : (question : Question) (texts more : List BatchText) (all others : List TextResults) → AreResultsOfAll question texts all → AreResultsOfAll question more others →
+    AreResultsOfAll question (texts ++ more) (all ++ others)
+results-append question [] more [] others first second = second
+results-append question (text ∷ texts) more (results ∷ all) others first second = (first.0, results-append question texts more all others first.1 second)
+results-append question texts more all others first second = absurd first
 
 -- what is found of a text
-some_found : (method : BatchMethod) (is_unread : Bool) (bytes : Option (List ℕ)) → (pieces : List (List ℕ)) × (judgments : List Judgment) × AreFound method is_unread bytes pieces judgments
-some_found method true bytes = ([], [], (refl, refl))
-some_found method false bytes =
+some_found : (question : Question) (is_unread : Bool) (bytes : Option (List ℕ)) → (pieces : List (List ℕ)) × (judgments : List Judgment) × AreFound question is_unread bytes pieces judgments
+some_found question true bytes = ([], [], (refl, refl))
+some_found question false bytes =
     let stream = unwrap_or bytes [] in
     let pieces = some_pieces stream in
-    let judgments = some_judgments method pieces.0 in
-    (pieces.0, judgments.0, reads_whole (λ s. AreResults method s pieces.0 judgments.0) bytes stream (own bytes) (record { are_pieces = pieces.1; are_judgments = judgments.1 }))
+    let judgments = some_judgments question pieces.0 in
+    (pieces.0, judgments.0, reads_whole (λ s. AreResults question s pieces.0 judgments.0) bytes stream (own bytes) (record { are_pieces = pieces.1; are_judgments = judgments.1 }))
   where
     own : (bytes : Option (List ℕ)) → IfSome bytes (λ all. unwrap_or bytes [] ≡ all)
     own None = tt
     own (Some all) = refl
 
-pub some_results : (method : BatchMethod) (text : BatchText) → (results : TextResults) × AreResultsOf method text results
-some_results method text =
-    let found = some_found method text.is_unread text.bytes in
+pub some_results : (question : Question) (text : BatchText) → (results : TextResults) × AreResultsOf question text results
+some_results question text =
+    let found = some_found question text.is_unread text.bytes in
     (record { name = text.name; is_unread = text.is_unread; pieces = found.0; judgments = found.1 }, (refl, refl, found.2))
 
-pub some_results_of_all : (method : BatchMethod) (texts : List BatchText) → (all : List TextResults) × AreResultsOfAll method texts all
-some_results_of_all method [] = ([], tt)
-some_results_of_all method (text ∷ texts) =
-    let one = some_results method text in
-    let rest = some_results_of_all method texts in
+pub some_results_of_all : (question : Question) (texts : List BatchText) → (all : List TextResults) × AreResultsOfAll question texts all
+some_results_of_all question [] = ([], tt)
+some_results_of_all question (text ∷ texts) =
+    let one = some_results question text in
+    let rest = some_results_of_all question texts in
     (one.0 ∷ rest.0, (one.1, rest.1))
 
 same_results : (a b : TextResults) → a.name ≡ b.name → a.is_unread ≡ b.is_unread → a.pieces ≡ b.pieces → a.judgments ≡ b.judgments → a ≡ b
@@ -51,21 +51,21 @@ same_results a b name unread pieces judgments = same a.name b.name a.is_unread b
         ◌≡◌ {A = TextResults} (record { name = n; is_unread = u; pieces = ps; judgments = js }) (record { name = m; is_unread = v; pieces = qs; judgments = ks })
     same n m u v ps qs js ks names unread pieces judgments = rw (names, unread, pieces, judgments) refl
 
-one_results : (name : Option (List ℕ)) (stream : List ℕ) (a b : TextResults) → AreResultsOf Judge (read_text name (Some stream)) a → AreResultsOf Judge (read_text name (Some stream)) b → a ≡ b
-one_results name stream a b p q =
+one_results : (explains : Bool) (name : Option (List ℕ)) (stream : List ℕ) (a b : TextResults) → AreResultsOf (asking Judge explains) (read_text name (Some stream)) a → AreResultsOf (asking Judge explains) (read_text name (Some stream)) b → a ≡ b
+one_results explains name stream a b p q =
     let first = p.2.of_all in
     let second = q.2.of_all in
     let pieces = one_list_of_pieces stream a.pieces b.pieces first.are_pieces second.are_pieces in
-    let are = subst (λ (ps : List (List ℕ)). AreJudgments Judge ps a.judgments) pieces first.are_judgments in
-    same_results a b (p.0 ∙ sym q.0) (p.1 ∙ sym q.1) pieces (one_list_of_judgments b.pieces a.judgments b.judgments are second.are_judgments)
+    let are = subst (λ (ps : List (List ℕ)). AreJudgments (asking Judge explains) ps a.judgments) pieces first.are_judgments in
+    same_results a b (p.0 ∙ sym q.0) (p.1 ∙ sym q.1) pieces (one_list_of_judgments explains b.pieces a.judgments b.judgments are second.are_judgments)
 
-pub one_results_of_all : (streams : List (Option (List ℕ) × List ℕ)) (all others : List TextResults) → AreResultsOfAll Judge (known_texts streams) all → AreResultsOfAll Judge (known_texts streams) others → all ≡ others
-one_results_of_all [] [] [] p q = refl
-one_results_of_all [] [] (b ∷ others) p q = absurd q
-one_results_of_all [] (a ∷ all) others p q = absurd p
-one_results_of_all (s ∷ streams) [] others p q = absurd p
-one_results_of_all (s ∷ streams) (a ∷ all) [] p q = absurd q
-one_results_of_all (s ∷ streams) (a ∷ all) (b ∷ others) p q = ap₂ (λ x xs. x ∷ xs) (one_results s.0 s.1 a b p.0 q.0) (one_results_of_all streams all others p.1 q.1)
+pub one_results_of_all : (explains : Bool) (streams : List (Option (List ℕ) × List ℕ)) (all others : List TextResults) → AreResultsOfAll (asking Judge explains) (known_texts streams) all → AreResultsOfAll (asking Judge explains) (known_texts streams) others → all ≡ others
+one_results_of_all explains [] [] [] p q = refl
+one_results_of_all explains [] [] (b ∷ others) p q = absurd q
+one_results_of_all explains [] (a ∷ all) others p q = absurd p
+one_results_of_all explains (s ∷ streams) [] others p q = absurd p
+one_results_of_all explains (s ∷ streams) (a ∷ all) [] p q = absurd q
+one_results_of_all explains (s ∷ streams) (a ∷ all) (b ∷ others) p q = ap₂ (λ x xs. x ∷ xs) (one_results explains s.0 s.1 a b p.0 q.0) (one_results_of_all explains streams all others p.1 q.1)
 
 pub texts-append : (printing : BatchPrinting) (all others : List TextResults) → results_texts printing (all ++ others) ≡ results_texts printing all ++ results_texts printing others
 texts-append printing [] others = refl

@@ -38,7 +38,7 @@ all_counted (j ∷ judgments) =
   where
     one : (k : Judgment) → ◌≡◌ {A = ℕ} (cond (is_judged k) 1 0 + (cond (says_undecided k) 1 0 + cond (says_refused k) 1 0)) 1
     one said.NoViolation = refl
-    one said.Violation = refl
+    one (said.Violation body) = refl
     one said.Consistent = refl
     one (said.Undecided steps) = refl
     one (said.Refused fault) = refl

@@ -21,7 +21,7 @@ use Rattle.tso_text.specs.Printed.{trace_header, entry_tokens, items_text, model
 use Rattle.trace_batches.specs.declared.batches.BatchPrinting.{BatchPrinting}
 use Rattle.trace_batches.specs.declared.judgments.Judgment.{Judgment}
 use Rattle.trace_batches.specs.declared.tallies.BatchVerdict.{BatchVerdict}
-use Rattle.trace_batches.specs.Batches.{AreResultsOfAll, IsBatch, TextResults, all_judgments, head_text, known_texts, last_line, last_text, pieces_text, results_text, results_texts, under_name, unread_text_line}
+use Rattle.trace_batches.specs.Batches.{AreResultsOfAll, asked, IsBatch, TextResults, all_judgments, head_text, known_texts, last_line, last_text, pieces_text, results_text, results_texts, under_name, unread_text_line}
 use Rattle.trace_batches.specs.Judgments.{AreJudgments}
 
 -- ---- bytes that end no line
@@ -172,13 +172,13 @@ pieces_of_traces traces pieces = (
 -- so what is printed of a batch is printed of them
 pub texts_of_traces : (printing : BatchPrinting) (name : Option (List ℕ)) (traces : List TraceValue) (text notes : List ℕ) (verdict : BatchVerdict) →
     IsBatch printing (known_texts ((name, flat_map trace_text traces) ∷ [])) text notes verdict →
-    (judgments : List Judgment) × AreJudgments printing.method (map trace_text traces) judgments
+    (judgments : List Judgment) × AreJudgments (asked printing) (map trace_text traces) judgments
     × (text ≡ head_text printing ++ (pieces_text (under_name printing name) 1 (map trace_text traces) judgments ++ last_text printing (last_line printing judgments)))
 texts_of_traces printing name traces text notes verdict batch = go batch.all batch.are_results batch.whole
   where
-    go : (all : List TextResults) → AreResultsOfAll printing.method (known_texts ((name, flat_map trace_text traces) ∷ [])) all →
+    go : (all : List TextResults) → AreResultsOfAll (asked printing) (known_texts ((name, flat_map trace_text traces) ∷ [])) all →
         text ≡ head_text printing ++ (results_texts printing all ++ last_text printing (last_line printing (all_judgments all))) →
-        (judgments : List Judgment) × AreJudgments printing.method (map trace_text traces) judgments
+        (judgments : List Judgment) × AreJudgments (asked printing) (map trace_text traces) judgments
         × (text ≡ head_text printing ++ (pieces_text (under_name printing name) 1 (map trace_text traces) judgments ++ last_text printing (last_line printing judgments)))
     go [] are whole = absurd are
     go (one ∷ two ∷ all) are whole = absurd are.1
@@ -190,7 +190,7 @@ texts_of_traces printing name traces text notes verdict batch = go batch.all bat
         let read : results_text printing one ≡ texts =
         ap (λ (b : Bool). if b then last_text printing (unread_text_line printing one.name) else texts) are.0.1 in (
           one.judgments,
-          subst (λ (pieces : List (List ℕ)). AreJudgments printing.method pieces one.judgments) same results.are_judgments,
+          subst (λ (pieces : List (List ℕ)). AreJudgments (asked printing) pieces one.judgments) same results.are_judgments,
           whole
               ∙ ap (λ js. head_text printing ++ (results_text printing one ++ [] ++ last_text printing (last_line printing js))) (append-nil one.judgments)
               ∙ ap (λ t. head_text printing ++ (t ++ last)) (append-nil (results_text printing one))

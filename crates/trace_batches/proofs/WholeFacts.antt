@@ -8,17 +8,17 @@ use Rattle.trace_reports.specs.Readings.{ReadsAs}
 use Rattle.trace_judging.specs.Streams.{AppendsPrefix}
 use Rattle.trace_judging.proofs.StreamFacts.{none_written, prefix_after, prefix_of_more, whole_written}
 use Rattle.trace_batches.specs.declared.batches.BatchFormat.{BatchFormat}
-use Rattle.trace_batches.specs.declared.batches.BatchMethod.{BatchMethod}
 use Rattle.trace_batches.specs.declared.batches.BatchMethod.TheVariants.{Judge}
 use Rattle.trace_batches.specs.declared.batches.BatchPrinting.{BatchPrinting}
 use Rattle.trace_batches.specs.declared.batches.TextJudging.{TextJudging}
 use Rattle.trace_batches.specs.declared.begun.Batch.{Batch}
 use Rattle.trace_batches.specs.declared.judgments.Judgment.{Judgment}
 use Rattle.trace_batches.specs.declared.tallies.BatchVerdict.{BatchVerdict}
+use Rattle.trace_batches.specs.Judgments.{asking}
 use Rattle.trace_batches.specs.declared.tallies.Tally.{Tally}
 use Rattle.trace_batches.specs.BatchLines.{fault_text, few_text, total_text}
 use Rattle.trace_batches.specs.BatchNames.{text_label}
-use Rattle.trace_batches.specs.Batches.{AreResults, AreResultsOf, AreResultsOfAll, BatchText, Counts, EndsBatch, HasJudged, HasWritten, IsBatch, Judges, LeavesBatch, LeavesEnd, LeavesText, TextPrinting, TextResults, WritesBatch, all_judgments, count_judged, count_violations, end_notes, head_text, known_texts, last_format, last_line, last_text, next_notes, note_text, notes_text, pieces_notes, pieces_text, read_text, results_notes_of_all, results_text, results_texts, under_name, unread_text, unread_text_line, verdict_of_all, verdict_with}
+use Rattle.trace_batches.specs.Batches.{AreResults, AreResultsOf, AreResultsOfAll, asked, BatchText, Counts, EndsBatch, HasJudged, HasWritten, IsBatch, Judges, LeavesBatch, LeavesEnd, LeavesText, TextPrinting, TextResults, WritesBatch, all_judgments, count_judged, count_violations, end_notes, head_text, known_texts, last_format, last_line, last_text, next_notes, note_text, notes_text, pieces_notes, pieces_text, read_text, results_notes_of_all, results_text, results_texts, under_name, unread_text, unread_text_line, verdict_of_all, verdict_with}
 use Rattle.trace_batches.specs.Internal.Progress.{LeavesPieces, Told, printing_by}
 use Rattle.trace_batches.proofs.BatchFacts.{told_results}
 use Rattle.trace_batches.proofs.ResultFacts.{any_more, any_read, judgments-push, notes_later, notes_push, one_results_of_all, results-append, some_results, some_results_of_all, texts-append}
@@ -41,21 +41,22 @@ text_of printing all = head_text printing ++ (results_texts printing all ++ last
 abbrev verdict_of : BatchPrinting → List TextResults → BatchVerdict
 verdict_of printing all = verdict_of_all printing.required all
 
-batch_of : (printing : BatchPrinting) (texts : List BatchText) (all : List TextResults) → AreResultsOfAll printing.method texts all →
+batch_of : (printing : BatchPrinting) (texts : List BatchText) (all : List TextResults) → AreResultsOfAll (asked printing) texts all →
     IsBatch printing texts (text_of printing all) (notes_text printing all) (verdict_of printing all)
 batch_of printing texts all are = record { all = all; are_results = are; whole = refl; noted = refl; says = refl }
 
 pub some_batch : (printing : BatchPrinting) (texts : List BatchText) → (text : List ℕ) × (notes : List ℕ) × (verdict : BatchVerdict) × IsBatch printing texts text notes verdict
 some_batch printing texts =
-    let some = some_results_of_all printing.method texts in
+    let some = some_results_of_all (asked printing) texts in
     (text_of printing some.0, notes_text printing some.0, verdict_of printing some.0, batch_of printing texts some.0 some.1)
 
 pub one_batch : (printing : BatchPrinting) (streams : List (Option (List ℕ) × List ℕ)) (text other notes others : List ℕ) (v w : BatchVerdict) → printing.method ≡ Judge →
     IsBatch printing (known_texts streams) text notes v → IsBatch printing (known_texts streams) other others w → (text ≡ other) × (notes ≡ others) × (v ≡ w)
 one_batch printing streams text other notes others v w rules p q =
-    let by_rules : (all : List TextResults) → AreResultsOfAll printing.method (known_texts streams) all → AreResultsOfAll Judge (known_texts streams) all =
-    λ all are. subst (λ method. AreResultsOfAll method (known_texts streams) all) rules are in
-    let same = one_results_of_all streams p.all q.all (by_rules p.all p.are_results) (by_rules q.all q.are_results) in (
+    let explains = (asked printing).explains in
+    let by_rules : (all : List TextResults) → AreResultsOfAll (asked printing) (known_texts streams) all → AreResultsOfAll (asking Judge explains) (known_texts streams) all =
+    λ all are. subst (λ method. AreResultsOfAll (asking method explains) (known_texts streams) all) rules are in
+    let same = one_results_of_all explains streams p.all q.all (by_rules p.all p.are_results) (by_rules q.all q.are_results) in (
       p.whole ∙ ap (text_of printing) same ∙ sym q.whole,
       p.noted ∙ ap (notes_text printing) same ∙ sym q.noted,
       p.says ∙ ap (verdict_of printing) same ∙ sym q.says,
@@ -65,7 +66,7 @@ one_batch printing streams text other notes others v w rules p q =
 
 -- what is left of it, where this was written of what is printed, and these notes
 left_of : (printing : BatchPrinting) (texts : List BatchText) (all : List TextResults) (old new before after : Option (List ℕ)) (first more notes others : List ℕ) →
-    AreResultsOfAll printing.method texts all → first ++ more ≡ text_of printing all → notes ++ others ≡ notes_text printing all → AppendsPrefix old new first → AppendsPrefix before after notes →
+    AreResultsOfAll (asked printing) texts all → first ++ more ≡ text_of printing all → notes ++ others ≡ notes_text printing all → AppendsPrefix old new first → AppendsPrefix before after notes →
     LeavesBatch printing texts old new before after
 left_of printing texts all old new before after first more notes others are same also written noted = (
   verdict_of printing all,
@@ -88,7 +89,7 @@ begun batch printing old new before has written = record {
 
 pub head_left : (printing : BatchPrinting) (texts : List BatchText) (old new before : Option (List ℕ)) → AppendsPrefix old new (head_text printing) → LeavesBatch printing texts old new before before
 head_left printing texts old new before written =
-    let some = some_results_of_all printing.method texts in
+    let some = some_results_of_all (asked printing) texts in
     left_of printing texts some.0 old new before before (head_text printing) (results_texts printing some.0 ++ last_of printing some.0) [] (notes_text printing some.0) some.1 refl refl written
     (none_written before [])
 
@@ -111,7 +112,7 @@ module _ (batch : Batch) (printing : BatchPrinting) (texts : List BatchText) (ol
       append_assoc (head_text printing) told this ∙ ap (λ t. head_text printing ++ t) (sym (texts-append printing w.all (one.0 ∷ []) ∙ ap (λ t. told ++ t) (append-nil this))) in
       record {
         all = w.all ++ one.0 ∷ [];
-        are_results = results-append printing.method texts (text ∷ []) w.all (one.0 ∷ []) w.are_results (one.1, tt);
+        are_results = results-append (asked printing) texts (text ∷ []) w.all (one.0 ∷ []) w.are_results (one.1, tt);
         judged = one.2;
         written = subst (Appends old new) same (Appends-trans old mid new so_far this w.written one.3);
         noted = subst (Appends before errors) (sym (notes_push printing w.all one.0)) (Appends-trans before between errors notes_so_far (next_notes printing w.all one.0) w.noted one.4);
@@ -121,7 +122,7 @@ module _ (batch : Batch) (printing : BatchPrinting) (texts : List BatchText) (ol
   pub judged_left : (text : BatchText) (later : List BatchText) (new errors : Option (List ℕ)) → LeavesText text batch mid new between errors → LeavesBatch printing (texts ++ text ∷ later) old new before errors
   judged_left text later new errors left =
       let one = left printing w.all w.judged in
-      let rest = some_results_of_all printing.method later in
+      let rest = some_results_of_all (asked printing) later in
       let this = results_text printing one.0 in
       let all = w.all ++ one.0 ∷ rest.0 in
       let others = results_texts printing rest.0 in
@@ -136,7 +137,7 @@ module _ (batch : Batch) (printing : BatchPrinting) (texts : List BatchText) (ol
       append_assoc notes_so_far next (more ++ end) ∙ ap (λ t. notes_so_far ++ t) (sym (append_assoc next more end)) ∙ sym (append_assoc notes_so_far (next ++ more) end)
       ∙ ap (λ t. t ++ end) (sym (notes_later printing w.all (one.0 ∷ rest.0))) in
       left_of printing (texts ++ text ∷ later) all old new before errors (so_far ++ this) (others ++ last) (notes_so_far ++ next) (more ++ end)
-      (results-append printing.method texts (text ∷ later) w.all (one.0 ∷ rest.0) w.are_results (one.1, rest.1)) same also (prefix_after old mid new so_far this w.written one.2)
+      (results-append (asked printing) texts (text ∷ later) w.all (one.0 ∷ rest.0) w.are_results (one.1, rest.1)) same also (prefix_after old mid new so_far this w.written one.2)
       (prefix_after before between errors notes_so_far next w.noted one.3)
 
   -- the last line was written, or a prefix of it
@@ -180,9 +181,9 @@ module _ (name bytes : Option (List ℕ)) (batch : Batch) (judging : TextJudging
   results_by pieces judgments = record { name = name; is_unread = false; pieces = pieces; judgments = judgments }
 
   of_method : (printing : BatchPrinting) (pieces : List (List ℕ)) (judgments : List Judgment) → batch.options.printing ≡ printing →
-      ReadsAs bytes (λ stream. AreResults judging.options.printing.method stream pieces judgments) → AreResultsOf printing.method (read_text name bytes) (results_by pieces judgments)
+      ReadsAs bytes (λ stream. AreResults (asked judging.options.printing) stream pieces judgments) → AreResultsOf (asked printing) (read_text name bytes) (results_by pieces judgments)
   of_method printing pieces judgments prints are =
-      (refl, refl, subst (λ (p : BatchPrinting). ReadsAs bytes (λ stream. AreResults p.method stream pieces judgments)) (printings ∙ prints) are)
+      (refl, refl, subst (λ (p : BatchPrinting). ReadsAs bytes (λ stream. AreResults (asked p) stream pieces judgments)) (printings ∙ prints) are)
 
   -- what is printed of it, and the notes on it
   text_is : (printing : BatchPrinting) (pieces : List (List ℕ)) (judgments : List Judgment) → batch.options.printing ≡ printing →
@@ -231,7 +232,7 @@ module _ (name bytes : Option (List ℕ)) (batch : Batch) (judging : TextJudging
 -- or before
 pub none_of_text : (text : BatchText) (batch : Batch) (old before : Option (List ℕ)) → LeavesText text batch old old before before
 none_of_text text batch old before printing all has =
-    let one = some_results printing.method text in
+    let one = some_results (asked printing) text in
     (one.0, one.1, none_written old (results_text printing one.0), none_written before (next_notes printing all one.0))
 
 -- ---- a text that can't be read

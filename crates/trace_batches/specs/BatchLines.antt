@@ -1,5 +1,5 @@
 -- The lines of a batch, in words, in JSON and in JUnit's XML. The lines of a text have its label.
-use Rattle.std.specs.Prelude.{ℕ, Bool, true, false, List, [], ◌∷◌, ◌++◌, Option, codes, length, nat_lt, unwrap_or, if◌then◌else◌}
+use Rattle.std.specs.Prelude.{ℕ, Bool, true, false, List, [], ◌∷◌, ◌++◌, Option, Some, None, codes, length, nat_lt, unwrap_or, if◌then◌else◌}
 use Rattle.std.specs.Fmt.{decimal}
 use Rattle.std.specs.List.{count_by}
 use Rattle.tso_text.specs.declared.faults.TextFault.{TextFault}
@@ -11,6 +11,7 @@ use Rattle.trace_batches.specs.declared.batches.BatchMethod.TheVariants.{Judge, 
 use Rattle.trace_batches.specs.declared.judgments.Judgment.{Judgment}
 use Rattle.trace_batches.specs.declared.judgments.Judgment.TheVariants.{NoViolation, Violation, Consistent, Undecided, Refused}
 use Rattle.trace_batches.specs.declared.tallies.Tally.{Tally}
+use Rattle.trace_batches.specs.BatchNames.{escaped_text}
 use Rattle.trace_batches.specs.Judgments.{says_consistent, says_refused, says_undecided, says_violation}
 use Rattle.trace_reports.specs.RefusalLines.{refusal_text}
 use Rattle.trace_reports.specs.Verdicts.{verdict_line}
@@ -20,7 +21,7 @@ use Rattle.trace_reports.specs.Verdicts.{verdict_line}
 -- the end of a line: what the piece's report says, without certificate, or its decision, without evidence
 abbrev pub line_end_of : Judgment → List ℕ
 line_end_of NoViolation = verdict_line false
-line_end_of Violation = verdict_line true
+line_end_of (Violation body) = verdict_line true
 line_end_of Consistent = codes "CONSISTENT\n"
 line_end_of (Undecided steps) = codes "UNDECIDED " ++ decimal steps ++ 10 ∷ []
 line_end_of (Refused fault) = refusal_text fault.line fault.why
@@ -48,7 +49,7 @@ json_undecided label number steps =
 -- the line of the trace of this number
 abbrev pub json_line : List ℕ → ℕ → Judgment → List ℕ
 json_line label number NoViolation = json_verdict label number (codes "no_violation_found")
-json_line label number Violation = json_verdict label number (codes "violation")
+json_line label number (Violation body) = json_verdict label number (codes "violation")
 json_line label number Consistent = json_verdict label number (codes "consistent")
 json_line label number (Undecided steps) = json_undecided label number steps
 json_line label number (Refused fault) = json_refusal label number fault
@@ -95,10 +96,15 @@ junit_error fault = codes "><error message=\"REFUSED " ++ (refusal_name fault.wh
 unfoldable pub junit_skipped : ℕ → List ℕ
 junit_skipped steps = codes "><skipped message=\"UNDECIDED " ++ (decimal steps ++ codes "\"/></testcase>")
 
--- the line of the trace of this number: a violation is a failure
+-- the end of a violation: a failure, with what explains it where that is asked for
+abbrev pub junit_failure : Option (List ℕ) → List ℕ
+junit_failure None = codes "><failure message=\"VIOLATION\"/></testcase>"
+junit_failure (Some text) = codes "><failure message=\"VIOLATION\">" ++ (escaped_text Junit text ++ codes "</failure></testcase>")
+
+-- the line of the trace of this number
 abbrev pub junit_line : List ℕ → ℕ → Judgment → List ℕ
 junit_line label number NoViolation = junit_trace label number one_passed (codes "/>")
-junit_line label number Violation = junit_trace label number one_failed (codes "><failure message=\"VIOLATION\"/></testcase>")
+junit_line label number (Violation body) = junit_trace label number one_failed (junit_failure body)
 junit_line label number Consistent = junit_trace label number one_passed (codes "/>")
 junit_line label number (Undecided steps) = junit_trace label number one_skipped (junit_skipped steps)
 junit_line label number (Refused fault) = junit_trace label number one_error (junit_error fault)

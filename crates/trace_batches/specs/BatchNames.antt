@@ -1,4 +1,5 @@
--- How the name of a text stands in the lines of a batch: characters that would break a line, or that its format gives another meaning, are escaped.
+-- How the name of a text, or what explains a violation, stands in the lines of a batch: characters that would break a line, or that its format gives another
+-- meaning, are escaped.
 use Rattle.std.specs.Prelude.{ℕ, ◌/◌, ◌%◌, ◌==◌, ◌||◌, Bool, List, [], ◌++◌, Option, None, Some, chars, codes, encode_utf8, flat_map, nat_lt, slice_index, if◌then◌else◌}
 use Rattle.std.specs.Fmt.{decimal}
 use Rattle.trace_batches.specs.declared.batches.BatchFormat.{BatchFormat}
@@ -53,20 +54,20 @@ xml_character c =
 
 -- ---- in each format
 
-abbrev pub name_character : BatchFormat → ℕ → List ℕ
-name_character Words c = word_character c
-name_character Json c = json_character c
-name_character Junit c = xml_character c
+abbrev pub text_character : BatchFormat → ℕ → List ℕ
+text_character Words c = word_character c
+text_character Json c = json_character c
+text_character Junit c = xml_character c
 
--- the name, character by character
-abbrev pub escaped_name : BatchFormat → List ℕ → List ℕ
-escaped_name format name = flat_map (name_character format) (chars name)
+-- the text, character by character
+abbrev pub escaped_text : BatchFormat → List ℕ → List ℕ
+escaped_text format text = flat_map (text_character format) (chars text)
 
 -- what stands in the lines of a text that has a name, or none
 abbrev pub text_label : BatchFormat → Option (List ℕ) → List ℕ
 text_label Words None = []
-text_label Words (Some name) = escaped_name Words name ++ codes ": "
+text_label Words (Some name) = escaped_text Words name ++ codes ": "
 text_label Json None = []
-text_label Json (Some name) = codes "\"file\":\"" ++ escaped_name Json name ++ codes "\","
+text_label Json (Some name) = codes "\"file\":\"" ++ escaped_text Json name ++ codes "\","
 text_label Junit None = codes "batch"
-text_label Junit (Some name) = escaped_name Junit name
+text_label Junit (Some name) = escaped_text Junit name

@@ -3,30 +3,42 @@ use Rattle.std.specs.Prelude.{◌≡◌, ◌+◌, ℕ, suc, Bool, true, false, L
 use Rattle.std.specs.Io.KnownBytes.{Appends}
 use Rattle.std.specs.List.{count_by, list_any}
 use Rattle.trace_batches.specs.declared.batches.BatchFormat.{BatchFormat}
-use Rattle.trace_batches.specs.declared.batches.BatchFormat.TheVariants.{Words, Junit}
-use Rattle.trace_batches.specs.declared.batches.BatchMethod.{BatchMethod}
+use Rattle.trace_batches.specs.declared.batches.BatchFormat.TheVariants.{Words, Json, Junit}
 use Rattle.trace_batches.specs.declared.batches.BatchPrinting.{BatchPrinting}
 use Rattle.trace_batches.specs.declared.begun.Batch.{Batch}
 use Rattle.trace_batches.specs.declared.judgments.Judgment.{Judgment}
 use Rattle.trace_batches.specs.declared.judgments.Judgment.TheVariants as judged
+use Rattle.trace_batches.specs.declared.questions.Question.{Question}
 use Rattle.trace_batches.specs.declared.tallies.BatchVerdict.{BatchVerdict}
 use Rattle.trace_batches.specs.declared.tallies.BatchVerdict.TheVariants.{NoViolation, Violation, Undecided, Refused, Unread}
 use Rattle.trace_batches.specs.declared.tallies.Tally.{Tally}
 use Rattle.trace_batches.specs.BatchLines.{are_too_few, fault_text, few_text, head_of, kept_line, total_line, trace_line, unread_line}
 use Rattle.trace_batches.specs.BatchNames.{text_label}
-use Rattle.trace_batches.specs.Judgments.{AreJudgments, is_judged, says_consistent, says_refused, says_undecided, says_violation}
+use Rattle.trace_batches.specs.Judgments.{AreJudgments, asking, is_judged, says_consistent, says_refused, says_undecided, says_violation}
 use Rattle.trace_batches.specs.Pieces.{ArePieces}
 use Rattle.trace_judging.specs.declared.faults.Fault.{Fault}
 use Rattle.trace_judging.specs.declared.faults.Fault.TheVariants.{Missing}
 use Rattle.trace_judging.specs.Streams.{AppendsPrefix}
 use Rattle.trace_reports.specs.Readings.{ReadsAs}
 
+-- ---- the question
+
+-- a document in JUnit's XML says what explains a violation
+abbrev pub has_bodies : BatchFormat → Bool
+has_bodies Words = false
+has_bodies Json = false
+has_bodies Junit = true
+
+-- what is asked of each trace of a batch that is printed so
+abbrev pub asked : BatchPrinting → Question
+asked printing = asking printing.method (if printing.violations then false else has_bodies printing.format)
+
 -- ---- the results
 
 -- The results of a stream: its pieces, in order, and what is said of each.
-pub record AreResults (method : BatchMethod) (stream : List ℕ) (pieces : List (List ℕ)) (judgments : List Judgment) : Type 0 where
+pub record AreResults (question : Question) (stream : List ℕ) (pieces : List (List ℕ)) (judgments : List Judgment) : Type 0 where
   pub are_pieces : ArePieces stream pieces
-  pub are_judgments : AreJudgments method pieces judgments
+  pub are_judgments : AreJudgments question pieces judgments
 
 -- a text of a batch: its name where lines have one, its bytes where these are known, and whether it can't be read, as where its file can't be opened
 pub record BatchText : Type 0 where
@@ -50,21 +62,21 @@ pub record TextResults : Type 0 where
   pub judgments : List Judgment
 
 -- These are the pieces of a text, and what is said of each. One that can't be read has none.
-abbrev pub AreFound : BatchMethod → Bool → Option (List ℕ) → List (List ℕ) → List Judgment → Type 0
-AreFound method true bytes pieces judgments = (pieces ≡ []) × (judgments ≡ [])
-AreFound method false bytes pieces judgments = ReadsAs bytes (λ stream. AreResults method stream pieces judgments)
+abbrev pub AreFound : Question → Bool → Option (List ℕ) → List (List ℕ) → List Judgment → Type 0
+AreFound question true bytes pieces judgments = (pieces ≡ []) × (judgments ≡ [])
+AreFound question false bytes pieces judgments = ReadsAs bytes (λ stream. AreResults question stream pieces judgments)
 
 -- these are the results of the text
-abbrev pub AreResultsOf : BatchMethod → BatchText → TextResults → Type 0
-AreResultsOf method text results =
-    (results.name ≡ text.name) × (results.is_unread ≡ text.is_unread) × AreFound method text.is_unread text.bytes results.pieces results.judgments
+abbrev pub AreResultsOf : Question → BatchText → TextResults → Type 0
+AreResultsOf question text results =
+    (results.name ≡ text.name) × (results.is_unread ≡ text.is_unread) × AreFound question text.is_unread text.bytes results.pieces results.judgments
 
 -- these are the results of the texts, one each, in order
-abbrev pub AreResultsOfAll : BatchMethod → List BatchText → List TextResults → Type 0
-AreResultsOfAll method [] [] = Unit {0}
-AreResultsOfAll method [] (results ∷ all) = ⊥
-AreResultsOfAll method (text ∷ texts) [] = ⊥
-AreResultsOfAll method (text ∷ texts) (results ∷ all) = AreResultsOf method text results × AreResultsOfAll method texts all
+abbrev pub AreResultsOfAll : Question → List BatchText → List TextResults → Type 0
+AreResultsOfAll question [] [] = Unit {0}
+AreResultsOfAll question [] (results ∷ all) = ⊥
+AreResultsOfAll question (text ∷ texts) [] = ⊥
+AreResultsOfAll question (text ∷ texts) (results ∷ all) = AreResultsOf question text results × AreResultsOfAll question texts all
 
 -- what is said of all pieces of all texts
 abbrev pub all_judgments : List TextResults → List Judgment
@@ -139,7 +151,7 @@ written_line of number judgment = if is_left_out of.printing.quiet judgment then
 
 -- the piece as it came where it is a violation, and nothing of others
 abbrev pub violating_text : List ℕ → Judgment → List ℕ
-violating_text piece judged.Violation = piece
+violating_text piece (judged.Violation body) = piece
 violating_text piece _ = []
 
 -- what is printed of the piece of this number: its text where it is a violation, or its line
@@ -157,7 +169,7 @@ kept_with kept judgment = if says_violation judgment then kept + 1 else kept
 
 -- of a piece that is printed it is noted which it is, and nothing of others
 abbrev pub kept_note : BatchFormat → List ℕ → ℕ → ℕ → Judgment → List ℕ
-kept_note format label kept number judged.Violation = kept_line format label kept number
+kept_note format label kept number (judged.Violation body) = kept_line format label kept number
 kept_note format label kept number _ = []
 
 -- the note on the piece of this number, beside texts of violations
@@ -216,7 +228,7 @@ notes_text printing all = results_notes_of_all printing 0 all ++ end_notes print
 -- The text and the notes are those of the batch of these texts, by their results.
 pub record IsBatch (printing : BatchPrinting) (texts : List BatchText) (text notes : List ℕ) (verdict : BatchVerdict) : Type 0 where
   pub all : List TextResults
-  pub are_results : AreResultsOfAll printing.method texts all
+  pub are_results : AreResultsOfAll (asked printing) texts all
   pub whole : text ≡ head_text printing ++ (results_texts printing all ++ last_text printing (last_line printing (all_judgments all)))
   pub noted : notes ≡ notes_text printing all
   pub says : verdict ≡ verdict_of_all printing.required all
@@ -269,13 +281,13 @@ next_notes printing all results = results_notes printing (count_violations (all_
 -- The next text was judged: what is printed of it was written, and the notes on it.
 abbrev pub Judges : BatchText → Batch → Batch → Option (List ℕ) → Option (List ℕ) → Option (List ℕ) → Option (List ℕ) → Type 0
 Judges text before after old new errors_before errors = (printing : BatchPrinting) (all : List TextResults) → HasJudged before printing all →
-    (results : TextResults) × AreResultsOf printing.method text results × HasJudged after printing (all ++ results ∷ []) × Appends old new (results_text printing results)
+    (results : TextResults) × AreResultsOf (asked printing) text results × HasJudged after printing (all ++ results ∷ []) × Appends old new (results_text printing results)
     × Appends errors_before errors (next_notes printing all results)
 
 -- A prefix of what is printed of the next text was written, and one of the notes on it.
 abbrev pub LeavesText : BatchText → Batch → Option (List ℕ) → Option (List ℕ) → Option (List ℕ) → Option (List ℕ) → Type 0
 LeavesText text before old new errors_before errors = (printing : BatchPrinting) (all : List TextResults) → HasJudged before printing all →
-    (results : TextResults) × AreResultsOf printing.method text results × AppendsPrefix old new (results_text printing results)
+    (results : TextResults) × AreResultsOf (asked printing) text results × AppendsPrefix old new (results_text printing results)
     × AppendsPrefix errors_before errors (next_notes printing all results)
 
 -- The last line was written, and the notes; or a prefix of each.
@@ -291,7 +303,7 @@ pub record LeavesEnd (batch : Batch) (old new before after : Option (List ℕ)) 
 -- A batch that has judged just these texts, and has written what is printed of them, after the head, and the notes on them.
 pub record HasWritten (batch : Batch) (printing : BatchPrinting) (texts : List BatchText) (old new before after : Option (List ℕ)) : Type 0 where
   pub all : List TextResults
-  pub are_results : AreResultsOfAll printing.method texts all
+  pub are_results : AreResultsOfAll (asked printing) texts all
   pub judged : HasJudged batch printing all
   pub written : Appends old new (head_text printing ++ results_texts printing all)
   pub noted : Appends before after (results_notes_of_all printing 0 all)

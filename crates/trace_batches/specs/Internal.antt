@@ -1,3 +1,4 @@
 pub mod Cutters
+pub mod Decided
 pub mod Progress
 pub mod Searches

@@ -1,5 +1,5 @@
 -- What is said of a piece of a stream, which stands in each text of a batch.
-use Rattle.std.specs.Prelude.{◌≡◌, ℕ, Bool, true, false, List, [], ◌∷◌}
+use Rattle.std.specs.Prelude.{◌≡◌, ℕ, Bool, true, false, List, [], ◌∷◌, Option, Some, None, if◌then◌else◌}
 use Rattle.tso_ops.specs.Values.{TraceValue}
 use Rattle.tso_text.specs.Refusals.{IsTraceRefusal}
 use Rattle.tso_text.specs.Texts.{SpellsTrace}
@@ -8,50 +8,94 @@ use Rattle.trace_batches.specs.declared.batches.BatchMethod.{BatchMethod}
 use Rattle.trace_batches.specs.declared.batches.BatchMethod.TheVariants.{Judge, Decide}
 use Rattle.trace_batches.specs.declared.judgments.Judgment.{Judgment}
 use Rattle.trace_batches.specs.declared.judgments.Judgment.TheVariants.{NoViolation, Violation, Consistent, Undecided, Refused}
+use Rattle.trace_batches.specs.declared.questions.Question.{Question}
 use Rattle.trace_reports.specs.declared.verdicts.Verdict.{Verdict}
 use Rattle.trace_reports.specs.declared.verdicts.Verdict.TheVariants as verdict
+use Rattle.trace_reports.specs.Renderings.{IsTextOfTrace}
 use Rattle.trace_reports.specs.Violations.{IsViolation}
+use Rattle.trace_decisions.specs.declared.answers.Answer.TheVariants as answer
+use Rattle.trace_decisions.specs.DecisionTexts.{IsDecisionText}
+use Rattle.trace_explanation.specs.Explained.{explained}
+use Rattle.decision_explanation.specs.Explained.{decision_explained}
+
+-- ---- questions
+
+-- it is asked by this method what is to be said of a trace, and whether also what explains a violation
+abbrev pub asking : BatchMethod → Bool → Question
+asking method explains = record { method = method; explains = explains }
+
+-- The text explains why the trace is a violation: it is what an explanation says, of what is found of the trace or of a decision on it.
+abbrev pub ExplainsViolation : BatchMethod → TraceValue → List ℕ → Type 0
+ExplainsViolation Judge t text = IsTextOfTrace explained t text verdict.Violation
+ExplainsViolation (Decide effort) t text = IsDecisionText decision_explained t effort text answer.Violation
+
+-- beside a violation stands what explains it exactly where that is asked for
+abbrev pub IsBody : Question → TraceValue → Option (List ℕ) → Type 0
+IsBody question t None = question.explains ≡ false
+IsBody question t (Some text) = (question.explains ≡ true) × ExplainsViolation question.method t text
+
+-- this text where it is asked for
+abbrev pub body_of : Bool → List ℕ → Option (List ℕ)
+body_of explains text = if explains then Some text else None
+
+-- ---- judgments
 
 -- This is said of a trace: by the rules, that it is a violation or that it is none; by a decision, that it has an order or that it has none, or, after
 -- as many steps as were allowed, only that it is no violation by the rules.
-abbrev pub IsJudgmentOn : BatchMethod → TraceValue → Judgment → Type 0
-IsJudgmentOn Judge t NoViolation = IsViolation t → ⊥
-IsJudgmentOn Judge t Violation = IsViolation t
-IsJudgmentOn Judge t Consistent = ⊥
-IsJudgmentOn Judge t (Undecided steps) = ⊥
-IsJudgmentOn Judge t (Refused fault) = ⊥
-IsJudgmentOn (Decide effort) t NoViolation = ⊥
-IsJudgmentOn (Decide effort) t Violation = IsConsistent t → ⊥
-IsJudgmentOn (Decide effort) t Consistent = IsConsistent t
-IsJudgmentOn (Decide effort) t (Undecided steps) = (steps ≡ effort) × (IsViolation t → ⊥)
-IsJudgmentOn (Decide effort) t (Refused fault) = ⊥
+abbrev pub IsSaidOf : BatchMethod → TraceValue → Judgment → Type 0
+IsSaidOf Judge t NoViolation = IsViolation t → ⊥
+IsSaidOf Judge t (Violation body) = IsViolation t
+IsSaidOf Judge t Consistent = ⊥
+IsSaidOf Judge t (Undecided steps) = ⊥
+IsSaidOf Judge t (Refused fault) = ⊥
+IsSaidOf (Decide effort) t NoViolation = ⊥
+IsSaidOf (Decide effort) t (Violation body) = IsConsistent t → ⊥
+IsSaidOf (Decide effort) t Consistent = IsConsistent t
+IsSaidOf (Decide effort) t (Undecided steps) = (steps ≡ effort) × (IsViolation t → ⊥)
+IsSaidOf (Decide effort) t (Refused fault) = ⊥
+
+-- the same, with what stands beside a violation
+abbrev pub IsJudgmentOn : Question → TraceValue → Judgment → Type 0
+IsJudgmentOn question t (Violation body) = IsSaidOf question.method t (Violation body) × IsBody question t body
+IsJudgmentOn question t NoViolation = IsSaidOf question.method t NoViolation
+IsJudgmentOn question t Consistent = IsSaidOf question.method t Consistent
+IsJudgmentOn question t (Undecided steps) = IsSaidOf question.method t (Undecided steps)
+IsJudgmentOn question t (Refused fault) = ⊥
 
 -- This is said of the piece: what is said of the trace that it spells; or at which line it is refused, and why.
-abbrev pub IsJudgment : BatchMethod → List ℕ → Judgment → Type 0
-IsJudgment method piece (Refused fault) = IsTraceRefusal piece fault.line fault.why
-IsJudgment method piece NoViolation = (t : TraceValue) × SpellsTrace piece t × IsJudgmentOn method t NoViolation
-IsJudgment method piece Violation = (t : TraceValue) × SpellsTrace piece t × IsJudgmentOn method t Violation
-IsJudgment method piece Consistent = (t : TraceValue) × SpellsTrace piece t × IsJudgmentOn method t Consistent
-IsJudgment method piece (Undecided steps) = (t : TraceValue) × SpellsTrace piece t × IsJudgmentOn method t (Undecided steps)
+abbrev pub IsJudgment : Question → List ℕ → Judgment → Type 0
+IsJudgment question piece (Refused fault) = IsTraceRefusal piece fault.line fault.why
+IsJudgment question piece NoViolation = (t : TraceValue) × SpellsTrace piece t × IsJudgmentOn question t NoViolation
+IsJudgment question piece (Violation body) = (t : TraceValue) × SpellsTrace piece t × IsJudgmentOn question t (Violation body)
+IsJudgment question piece Consistent = (t : TraceValue) × SpellsTrace piece t × IsJudgmentOn question t Consistent
+IsJudgment question piece (Undecided steps) = (t : TraceValue) × SpellsTrace piece t × IsJudgmentOn question t (Undecided steps)
 
 -- these are the judgments of the pieces, one each, in order
-abbrev pub AreJudgments : BatchMethod → List (List ℕ) → List Judgment → Type 0
-AreJudgments method [] [] = Unit {0}
-AreJudgments method [] (judgment ∷ judgments) = ⊥
-AreJudgments method (piece ∷ pieces) [] = ⊥
-AreJudgments method (piece ∷ pieces) (judgment ∷ judgments) = IsJudgment method piece judgment × AreJudgments method pieces judgments
+abbrev pub AreJudgments : Question → List (List ℕ) → List Judgment → Type 0
+AreJudgments question [] [] = Unit {0}
+AreJudgments question [] (judgment ∷ judgments) = ⊥
+AreJudgments question (piece ∷ pieces) [] = ⊥
+AreJudgments question (piece ∷ pieces) (judgment ∷ judgments) = IsJudgment question piece judgment × AreJudgments question pieces judgments
+
+-- the same without what explains a violation
+abbrev pub plain : Judgment → Judgment
+plain (Violation body) = Violation None
+plain NoViolation = NoViolation
+plain Consistent = Consistent
+plain (Undecided steps) = Undecided steps
+plain (Refused fault) = Refused fault
 
 -- the verdict of the piece's report, where the rules say it
 abbrev pub judgment_verdict : Judgment → Verdict
 judgment_verdict NoViolation = verdict.NoViolation
-judgment_verdict Violation = verdict.Violation
+judgment_verdict (Violation body) = verdict.Violation
 judgment_verdict Consistent = verdict.NoViolation
 judgment_verdict (Undecided steps) = verdict.NoViolation
 judgment_verdict (Refused fault) = verdict.Refused
 
 -- it says a violation
 abbrev pub says_violation : Judgment → Bool
-says_violation Violation = true
+says_violation (Violation body) = true
 says_violation _ = false
 
 -- it says an order

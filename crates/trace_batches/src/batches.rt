@@ -4,7 +4,7 @@ ghost use Rattle.std.specs.Io.KnownBytes.{Appends, Consumes, IsAtEnd, prepend_kn
 ghost use Rattle.trace_batches.specs.Internal.Cutters.{IsAt, rows};
 ghost use Rattle.trace_batches.specs.Pieces.{last_piece};
 ghost use Rattle.trace_judging.specs.Streams.{AppendsPrefix};
-ghost use Rattle.trace_batches.specs.Batches.{Counts, IsBatchFault, kept_note, kept_with, last_format, piece_note, piece_text, violating_text};
+ghost use Rattle.trace_batches.specs.Batches.{asked, Counts, IsBatchFault, kept_note, kept_with, last_format, piece_note, piece_text, violating_text};
 ghost use Rattle.trace_batches.specs.BatchLines.{kept_line};
 ghost use Rattle.trace_batches.specs.Internal.Progress.{AreJudged, LeavesPieces, Stands, Told, WroteAll, WroteSome, printing_by};
 ghost use Rattle.trace_batches.specs.declared.judgments.Judgment.{Judgment};
@@ -215,14 +215,14 @@ fn write_jobs<W: Write, E: Write>(
     writer: &mut W,
     errors: &mut E,
 ) -> Result<(), Fault>
-    ensures whole { OnOk result ((pieces : List (List ℕ)) → AreJudged judging.now.options.printing.method pieces jobs.now → WroteAll (printing_by judging.now) judging.now.kept tally.old tally.new pieces (W.contents writer.old) (W.contents writer.new) (E.contents errors.old) (E.contents errors.new)) }
-    ensures some { OnErr result ((pieces : List (List ℕ)) → AreJudged judging.now.options.printing.method pieces jobs.now → WroteSome (printing_by judging.now) judging.now.kept tally.old pieces (W.contents writer.old) (W.contents writer.new) (E.contents errors.old) (E.contents errors.new)) }
-    ensures fault { IfErr result (λ fault. (pieces : List (List ℕ)) → AreJudged judging.now.options.printing.method pieces jobs.now → IsBatchFault fault) }
+    ensures whole { OnOk result ((pieces : List (List ℕ)) → AreJudged (asked judging.now.options.printing) pieces jobs.now → WroteAll (printing_by judging.now) judging.now.kept tally.old tally.new pieces (W.contents writer.old) (W.contents writer.new) (E.contents errors.old) (E.contents errors.new)) }
+    ensures some { OnErr result ((pieces : List (List ℕ)) → AreJudged (asked judging.now.options.printing) pieces jobs.now → WroteSome (printing_by judging.now) judging.now.kept tally.old pieces (W.contents writer.old) (W.contents writer.new) (E.contents errors.old) (E.contents errors.new)) }
+    ensures fault { IfErr result (λ fault. (pieces : List (List ℕ)) → AreJudged (asked judging.now.options.printing) pieces jobs.now → IsBatchFault fault) }
 {
     for job in jobs {
-        match job.outcome {
+        match &job.outcome {
             Ok(judgment) => write_piece(judging, &job.piece, judgment, tally, writer, errors)?,
-            Err(fault) => return Err(fault),
+            Err(fault) => return Err(*fault),
         }
     }
     Ok(())
@@ -232,18 +232,18 @@ fn write_jobs<W: Write, E: Write>(
 fn write_piece<W: Write, E: Write>(
     judging: &TextJudging<'_>,
     piece: &[u8],
-    judgment: Judgment,
+    judgment: &Judgment,
     tally: &mut Tally,
     writer: &mut W,
     errors: &mut E,
 ) -> Result<(), Fault>
-    ensures counted { OnOk result ((judgments : List Judgment) → Counts tally.old judgments → Counts tally.new (judgments ++ judgment ∷ [])) }
+    ensures counted { OnOk result ((judgments : List Judgment) → Counts tally.old judgments → Counts tally.new (judgments ++ judgment.now ∷ [])) }
     ensures traces { OnOk result (tally.new.traces ≡ tally.old.traces + 1) }
-    ensures violations { OnOk result (tally.new.violations ≡ kept_with tally.old.violations judgment) }
-    ensures whole { OnOk result (Appends (W.contents writer.old) (W.contents writer.new) (piece_text (printing_by judging.now) (tally.old.traces + 1) piece.now judgment)) }
-    ensures noted { OnOk result (Appends (E.contents errors.old) (E.contents errors.new) (piece_note (printing_by judging.now) (judging.now.kept + kept_with tally.old.violations judgment) (tally.old.traces + 1) judgment)) }
-    ensures prefix { AppendsPrefix (W.contents writer.old) (W.contents writer.new) (piece_text (printing_by judging.now) (tally.old.traces + 1) piece.now judgment) }
-    ensures some { AppendsPrefix (E.contents errors.old) (E.contents errors.new) (piece_note (printing_by judging.now) (judging.now.kept + kept_with tally.old.violations judgment) (tally.old.traces + 1) judgment) }
+    ensures violations { OnOk result (tally.new.violations ≡ kept_with tally.old.violations judgment.now) }
+    ensures whole { OnOk result (Appends (W.contents writer.old) (W.contents writer.new) (piece_text (printing_by judging.now) (tally.old.traces + 1) piece.now judgment.now)) }
+    ensures noted { OnOk result (Appends (E.contents errors.old) (E.contents errors.new) (piece_note (printing_by judging.now) (judging.now.kept + kept_with tally.old.violations judgment.now) (tally.old.traces + 1) judgment.now)) }
+    ensures prefix { AppendsPrefix (W.contents writer.old) (W.contents writer.new) (piece_text (printing_by judging.now) (tally.old.traces + 1) piece.now judgment.now) }
+    ensures some { AppendsPrefix (E.contents errors.old) (E.contents errors.new) (piece_note (printing_by judging.now) (judging.now.kept + kept_with tally.old.violations judgment.now) (tally.old.traces + 1) judgment.now) }
     ensures fault { IfErr result IsBatchFault }
 {
     tally.count(judgment)?;
@@ -258,19 +258,19 @@ fn write_piece<W: Write, E: Write>(
 fn write_violating<W: Write, E: Write>(
     judging: &TextJudging<'_>,
     piece: &[u8],
-    judgment: Judgment,
+    judgment: &Judgment,
     tally: &Tally,
     writer: &mut W,
     errors: &mut E,
 ) -> Result<(), Fault>
-    ensures whole { OnOk result (Appends (W.contents writer.old) (W.contents writer.new) (violating_text piece.now judgment)) }
-    ensures noted { OnOk result (Appends (E.contents errors.old) (E.contents errors.new) (kept_note (last_format judging.now.options.printing) judging.now.label.now (judging.now.kept + tally.now.violations) tally.now.traces judgment)) }
-    ensures prefix { AppendsPrefix (W.contents writer.old) (W.contents writer.new) (violating_text piece.now judgment) }
-    ensures some { AppendsPrefix (E.contents errors.old) (E.contents errors.new) (kept_note (last_format judging.now.options.printing) judging.now.label.now (judging.now.kept + tally.now.violations) tally.now.traces judgment) }
+    ensures whole { OnOk result (Appends (W.contents writer.old) (W.contents writer.new) (violating_text piece.now judgment.now)) }
+    ensures noted { OnOk result (Appends (E.contents errors.old) (E.contents errors.new) (kept_note (last_format judging.now.options.printing) judging.now.label.now (judging.now.kept + tally.now.violations) tally.now.traces judgment.now)) }
+    ensures prefix { AppendsPrefix (W.contents writer.old) (W.contents writer.new) (violating_text piece.now judgment.now) }
+    ensures some { AppendsPrefix (E.contents errors.old) (E.contents errors.new) (kept_note (last_format judging.now.options.printing) judging.now.label.now (judging.now.kept + tally.now.violations) tally.now.traces judgment.now) }
     ensures fault { IfErr result IsBatchFault }
 {
     match judgment {
-        Judgment::Violation => write_kept(judging, piece, tally, writer, errors),
+        Judgment::Violation(_) => write_kept(judging, piece, tally, writer, errors),
         Judgment::NoViolation
         | Judgment::Consistent
         | Judgment::Undecided(_)

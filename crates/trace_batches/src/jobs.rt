@@ -1,10 +1,12 @@
 //! Pieces of a batch, judged side by side.
 ghost use Rattle.std.specs.Prelude.{◌≡◌, ◌≤◌, IfOk, map};
+ghost use Rattle.trace_batches.specs.Batches.{asked};
 ghost use Rattle.trace_batches.specs.Internal.Cutters.{rows};
 ghost use Rattle.trace_batches.specs.Internal.Progress.{AreJudged, IsJobOf};
 
-use crate::batches::{BatchMethod, BatchOptions};
+use crate::batches::BatchOptions;
 use crate::judgments::{Judgment, judge_piece};
+use crate::questions::{Question, asked};
 use std::alloc::Global;
 use std::sync::Wait;
 use std::thread;
@@ -32,10 +34,10 @@ impl Job {
     }
 
     /// Judges the piece with one worker.
-    fn judge<H: Threads + Wait>(&mut self, rt: &H, alloc: Global, method: BatchMethod)
-        ensures { IsJobOf method self.old.piece.items self.new }
+    fn judge<H: Threads + Wait>(&mut self, rt: &H, alloc: Global, question: Question)
+        ensures { IsJobOf question self.old.piece.items self.new }
     {
-        self.outcome = judge_piece(rt, alloc, &self.piece, method);
+        self.outcome = judge_piece(rt, alloc, &self.piece, question);
     }
 }
 
@@ -48,7 +50,7 @@ pub(crate) fn judge_all<H: Threads + Wait + Sync>(
     options: BatchOptions,
 ) -> Result<Vec<Job>, OutOfMemory>
     requires { 1 ≤ options.workers }
-    ensures { IfOk result (λ jobs. AreJudged options.printing.method (rows pieces.items) jobs.items) }
+    ensures { IfOk result (λ jobs. AreJudged (asked options.printing) (rows pieces.items) jobs.items) }
 {
     let mut jobs = jobs_of(alloc, pieces)?;
     judge_each(rt, alloc, &mut jobs, options);
@@ -73,11 +75,11 @@ fn judge_each<H: Threads + Wait + Sync>(
     options: BatchOptions,
 )
     requires { 1 ≤ options.workers }
-    ensures { AreJudged options.printing.method (map (λ job. job.piece.items) jobs.old) jobs.new }
+    ensures { AreJudged (asked options.printing) (map (λ job. job.piece.items) jobs.old) jobs.new }
 {
-    let method = options.printing.method;
+    let question = asked(options.printing);
     let judge = |_: usize, job: &mut Job|
-        ensures { IsJobOf method job.entry.now.piece.items job.exit.now }
-    { job.judge(rt, alloc, method) };
+        ensures { IsJobOf question job.entry.now.piece.items job.exit.now }
+    { job.judge(rt, alloc, question) };
     thread::for_each_mut(rt, jobs, options.workers, &judge);
 }

@@ -161,9 +161,11 @@ impl Batch {
 /// A piece of the stream ends with a line `end`; what follows the last one, if there is a byte, is a last piece. The line of
 /// the K-th piece is `trace K` and what its report says: `NO VIOLATION FOUND`, which a quiet batch leaves out, `VIOLATION`,
 /// or `REFUSED` with name and line; or what its decision says: `CONSISTENT`, which a quiet batch leaves out, `VIOLATION`,
-/// `UNDECIDED` with the number of steps, or `REFUSED` with name and line. Where violations are to be printed, the texts of the pieces that are violations, as they
-/// came, stand in the place of all lines, and `errors` is told which traces they are and has the last line. In JSON each line is an object, with the
-/// verdict `violation`, `no_violation_found`, `consistent`, `undecided` or `refused`; in JUnit's XML it is a suite of one document, with one test case.
+/// `UNDECIDED` with the number of steps, or `REFUSED` with name and line. Where violations are to be printed, the texts of the
+/// pieces that are violations, as they came, stand in the place of all lines, and `errors` is told which traces they are and
+/// has the last line. In JSON each line is an object, with the verdict `violation`, `no_violation_found`, `consistent`,
+/// `undecided` or `refused`; in JUnit's XML it is a suite of one document, with one test case, of which a violation has the
+/// explanation too.
 ///
 /// It is a batch of this one text, without a name: see `Batch` for what is kept of a piece, for the verdict and for the
 /// faults, with each of which a prefix of the texts was written. It may wait.

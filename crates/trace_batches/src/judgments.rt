@@ -1,17 +1,17 @@
 //! What is said of a piece of a stream.
 ghost use Rattle.std.specs.Prelude.{◌≡◌, ◌≢◌, ℕ, List, IfOk, IfErr};
-ghost use Rattle.tso_ops.specs.Values.{TraceValue};
 ghost use Rattle.tso_text.specs.Refusals.{IsTraceRefusal};
 ghost use Rattle.tso_text.specs.Texts.{SpellsTrace};
-ghost use Rattle.tso_text.specs.declared.faults.Why.TheVariants.{OutOfMemory};
+ghost use Rattle.tso_text.specs.declared.faults.Why.{Why};
 ghost use Rattle.trace_reports.specs.Findings.{IsFinding};
-ghost use Rattle.trace_decisions.specs.Decisions.{IsDecision, Tells};
 ghost use Rattle.trace_batches.specs.Batches.{IsBatchFault};
-ghost use Rattle.trace_batches.specs.Judgments.{IsJudgment, IsJudgmentOn};
-ghost use Rattle.trace_batches.specs.declared.batches.BatchMethod.{BatchMethod};
-ghost use Rattle.trace_batches.specs.declared.batches.BatchMethod.TheVariants.{Judge, Decide};
+ghost use Rattle.trace_batches.specs.Internal.Decided.{is_order, judgment_of};
+ghost use Rattle.trace_batches.specs.Judgments.{asking, IsJudgment, IsJudgmentOn};
+ghost use Rattle.trace_batches.specs.declared.batches.BatchMethod.TheVariants.{Judge};
+ghost use Rattle.trace_batches.specs.declared.questions.Question.{Question};
 
 use crate::batches::BatchMethod;
+use crate::questions::{FailureBody, Question, explain_decision, explain_finding};
 use acyclic_traces::is_shown_acyclic;
 use std::alloc::Global;
 use std::sync::Wait;
@@ -19,16 +19,16 @@ use std::thread::Threads;
 use trace_decisions::{Decision, decide};
 use trace_judging::{Fault, Finding, find_violation, least_unwritten};
 use tso_evidence::Evidence;
-use tso_ops::Trace;
+use tso_ops::{OutOfMemory, Trace};
 use tso_text::{TextFault, Why, read_trace};
 
 /// What is said of a piece of a stream.
-#[derive(Clone, Copy, Debug)]
+#[derive(Drop)]
 pub(crate) enum Judgment {
     /// It is a trace in which no violation was found.
     NoViolation,
-    /// It is a trace that is a violation.
-    Violation,
+    /// It is a trace that is a violation, which this explains.
+    Violation(FailureBody),
     /// It is a trace that has an order.
     Consistent,
     /// It is a trace of which neither was shown with so many steps.
@@ -44,13 +44,13 @@ pub(crate) fn judge_piece<H: Threads + Wait>(
     rt: &H,
     alloc: Global,
     piece: &[u8],
-    method: BatchMethod,
+    question: Question,
 ) -> Result<Judgment, Fault>
-    ensures said { IfOk result (IsJudgment method piece.now) }
+    ensures said { IfOk result (IsJudgment question piece.now) }
     ensures fault { IfErr result IsBatchFault }
 {
     match read_trace(alloc, piece) {
-        Ok(trace) => judge_trace(rt, alloc, &trace, method),
+        Ok(trace) => judge_trace(rt, alloc, &trace, question),
         Err(fault) => refused_for(fault),
     }
 }
@@ -60,16 +60,18 @@ fn judge_trace<H: Threads + Wait>(
     rt: &H,
     alloc: Global,
     trace: &Trace,
-    method: BatchMethod,
+    question: Question,
 ) -> Result<Judgment, Fault>
-    ensures said { IfOk result (IsJudgmentOn method trace.now) }
+    ensures said { IfOk result (IsJudgmentOn question trace.now) }
     ensures fault { IfErr result IsBatchFault }
 {
-    match method {
-        BatchMethod::Judge => judge_by_rules(rt, alloc, trace),
+    let explains = question.explains;
+    match question.method {
+        BatchMethod::Judge => judge_by_rules(rt, alloc, trace, explains),
         BatchMethod::Decide { effort } => {
             let decision = decide(rt, alloc, trace, 1, effort)?;
-            Ok(judgment_of(&decision))
+            let judgment = judgment_of(alloc, trace, &decision, explains)?;
+            Ok(judgment)
         }
     }
 }
@@ -80,41 +82,71 @@ fn judge_by_rules<H: Threads + Wait>(
     rt: &H,
     alloc: Global,
     trace: &Trace,
+    explains: bool,
 ) -> Result<Judgment, Fault>
-    ensures said { IfOk result (IsJudgmentOn Judge trace.now) }
+    ensures said { IfOk result (IsJudgmentOn (asking Judge explains) trace.now) }
     ensures fault { IfErr result IsBatchFault }
 {
     if least_unwritten(trace).is_none() && is_shown_acyclic(trace) {
         return Ok(Judgment::NoViolation);
     }
     let finding = find_violation(rt, alloc, trace, 1)?;
-    Ok(judgment_by(&finding))
+    Ok(judgment_by(alloc, trace, &finding, explains)?)
 }
 
-/// What is said of a trace of which this was found.
-fn judgment_by(finding: &Finding) -> Judgment
-    ensures { (t : TraceValue) → IsFinding t finding.now → IsJudgmentOn Judge t result }
+/// What is said of a trace of which this was found. OutOfMemory where an allocation was refused.
+fn judgment_by(
+    alloc: Global,
+    trace: &Trace,
+    finding: &Finding,
+    explains: bool,
+) -> Result<Judgment, OutOfMemory>
+    requires { IsFinding trace.now finding.now }
+    ensures { IfOk result (IsJudgmentOn (asking Judge explains) trace.now) }
 {
     match finding.certificate {
-        Some(_) => Judgment::Violation,
-        None => Judgment::NoViolation,
+        Some(_) => {
+            let body = explain_finding(alloc, trace, finding, explains)?;
+            Ok(Judgment::Violation(body))
+        }
+        None => Ok(Judgment::NoViolation),
     }
 }
 
-/// What is said of a trace of which this was decided.
-fn judgment_of(decision: &Decision) -> Judgment
-    ensures { (t : TraceValue) (effort : ℕ) → IsDecision t effort decision.now → Tells t decision.now → IsJudgmentOn (Decide effort) t result }
+/// What is said of a trace of which this was decided. OutOfMemory where an allocation was refused.
+fn judgment_of(
+    alloc: Global,
+    trace: &Trace,
+    decision: &Decision,
+    explains: bool,
+) -> Result<Judgment, OutOfMemory>
+    ensures { IfOk result (λ judgment. judgment ≡ judgment_of explains trace.now decision.now) }
 {
     match decision {
-        Decision::Decided(Evidence::Order(_)) => Judgment::Consistent,
-        Decision::Decided(Evidence::Unwritten(_) | Evidence::Refutation(_)) => Judgment::Violation,
-        Decision::Undecided(steps) => Judgment::Undecided(*steps),
+        Decision::Decided(evidence) => {
+            if is_order(evidence) {
+                return Ok(Judgment::Consistent);
+            }
+            let body = explain_decision(alloc, trace, decision, explains)?;
+            Ok(Judgment::Violation(body))
+        }
+        Decision::Undecided(steps) => Ok(Judgment::Undecided(*steps)),
+    }
+}
+
+/// Whether the evidence is an order.
+fn is_order(evidence: &Evidence) -> bool
+    ensures { result ≡ is_order evidence.now }
+{
+    match evidence {
+        Evidence::Order(_) => true,
+        Evidence::Unwritten(_) | Evidence::Refutation(_) => false,
     }
 }
 
 /// What is said of a piece that is refused for this fault. OutOfMemory where the fault says that an allocation was refused.
 fn refused_for(fault: TextFault) -> Result<Judgment, Fault>
-    ensures said { IfOk result (λ judgment. (method : BatchMethod) (piece : List ℕ) → (fault.why ≢ OutOfMemory → IsTraceRefusal piece fault.line fault.why) → IsJudgment method piece judgment) }
+    ensures said { IfOk result (λ judgment. (question : Question) (piece : List ℕ) → (fault.why ≢ Why.OutOfMemory → IsTraceRefusal piece fault.line fault.why) → IsJudgment question piece judgment) }
     ensures fault { IfErr result IsBatchFault }
 {
     if fault.why == Why::OutOfMemory {

@@ -1,5 +1,5 @@
 //! What the definitions of pieces and batches say, proved of all streams.
-ghost use Rattle.std.specs.Prelude.{◌≡◌, ◌⊎◌, ◌<◌, ◌↔◌, ◌∷◌, ◌++◌, [], ℕ, List, Option, length, map, take, true};
+ghost use Rattle.std.specs.Prelude.{◌≡◌, ◌⊎◌, ◌<◌, ◌↔◌, ◌∷◌, ◌++◌, [], ℕ, Bool, List, Option, length, map, take, false, true};
 ghost use Rattle.std.specs.List.{concat, flat_map};
 ghost use Rattle.trace_batches.specs.Pieces.{ArePieces};
 ghost use Rattle.tso_ops.specs.Values.{TraceValue};
@@ -8,15 +8,16 @@ ghost use Rattle.trace_reports.specs.RefusalLines.{refusal_text};
 ghost use Rattle.trace_reports.specs.Reports.{IsReport};
 ghost use Rattle.trace_reports.specs.declared.verdicts.Verdict.{Verdict};
 ghost use Rattle.tso_text.specs.Printed.{trace_text};
+ghost use Rattle.tso_text.specs.Refusals.{IsTraceRefusal};
 ghost use Rattle.tso_text.specs.Texts.{text_byte_limit};
 ghost use Rattle.tso_text.specs.declared.faults.TextFault.{TextFault};
 ghost use Rattle.tso_text.specs.declared.faults.Why.{Why};
-ghost use Rattle.trace_batches.specs.Batches.{BatchText, IsBatch, head_text, known_texts, last_line, last_text, pieces_text, under_name};
-ghost use Rattle.trace_batches.specs.Judgments.{AreJudgments, IsJudgment, judgment_verdict, says_undecided};
-ghost use Rattle.trace_batches.specs.declared.batches.BatchMethod.{BatchMethod};
+ghost use Rattle.trace_batches.specs.Batches.{asked, BatchText, IsBatch, head_text, known_texts, last_line, last_text, pieces_text, under_name};
+ghost use Rattle.trace_batches.specs.Judgments.{AreJudgments, asking, IsJudgment, judgment_verdict, plain, says_undecided};
 ghost use Rattle.trace_batches.specs.declared.batches.BatchMethod.TheVariants.{Judge, Decide};
 ghost use Rattle.trace_batches.specs.declared.batches.BatchPrinting.{BatchPrinting};
 ghost use Rattle.trace_batches.specs.declared.judgments.Judgment.{Judgment};
+ghost use Rattle.trace_batches.specs.declared.questions.Question.{Question};
 ghost use Rattle.trace_batches.specs.declared.tallies.BatchVerdict.{BatchVerdict};
 
 /// Each stream has one list of pieces, which joined are the stream.
@@ -26,18 +27,21 @@ pub fn pieces()
     ensures joined { (stream : List ℕ) (pieces : List (List ℕ)) → ArePieces stream pieces → stream ≡ concat pieces }
 {}
 
-/// By the rules one thing is said of each piece, which is what its report says: the verdict, and the line of a refusal.
+/// By the rules one thing is said of each piece, which is what its report says: the verdict, and the line of a refusal. Where it is
+/// asked for, what explains a violation is one too.
 pub fn judgments()
-    ensures exists { (piece : List ℕ) → (judgment : Judgment) × IsJudgment Judge piece judgment }
-    ensures one { (piece : List ℕ) (judgment other : Judgment) → IsJudgment Judge piece judgment → IsJudgment Judge piece other → judgment ≡ other }
-    ensures verdict { (piece text : List ℕ) (verdict : Verdict) (judgment : Judgment) → IsReport piece text verdict → IsJudgment Judge piece judgment → verdict ≡ judgment_verdict judgment }
-    ensures refusal { (piece text : List ℕ) (verdict : Verdict) (fault : TextFault) → IsReport piece text verdict → IsJudgment Judge piece (Judgment.Refused fault) → text ≡ refusal_text fault.line fault.why }
+    ensures exists { (explains : Bool) (piece : List ℕ) → (judgment : Judgment) × IsJudgment (asking Judge explains) piece judgment }
+    ensures one { (explains : Bool) (piece : List ℕ) (judgment other : Judgment) → IsJudgment (asking Judge explains) piece judgment → IsJudgment (asking Judge explains) piece other → judgment ≡ other }
+    ensures verdict { (explains : Bool) (piece text : List ℕ) (verdict : Verdict) (judgment : Judgment) → IsReport piece text verdict → IsJudgment (asking Judge explains) piece judgment → verdict ≡ judgment_verdict judgment }
+    ensures refusal { (explains : Bool) (piece text : List ℕ) (verdict : Verdict) (fault : TextFault) → IsReport piece text verdict → IsJudgment (asking Judge explains) piece (Judgment.Refused fault) → text ≡ refusal_text fault.line fault.why }
 {}
 
-/// By a decision one thing is said of each piece, unless it is undecided; a refusal is the same as by the rules.
+/// By a decision one thing is said of each piece, unless it is undecided; but several evidences may explain a violation. A refusal is
+/// the same as by the rules.
 pub fn decisions()
-    ensures one { (effort : ℕ) (piece : List ℕ) (judgment other : Judgment) → IsJudgment (Decide effort) piece judgment → IsJudgment (Decide effort) piece other → (says_undecided judgment ≡ true) ⊎ (says_undecided other ≡ true) ⊎ (judgment ≡ other) }
-    ensures refusal { (effort : ℕ) (piece : List ℕ) (fault : TextFault) → IsJudgment (Decide effort) piece (Judgment.Refused fault) ↔ IsJudgment Judge piece (Judgment.Refused fault) }
+    ensures one { (effort : ℕ) (piece : List ℕ) (judgment other : Judgment) → IsJudgment (asking (Decide effort) false) piece judgment → IsJudgment (asking (Decide effort) false) piece other → (says_undecided judgment ≡ true) ⊎ (says_undecided other ≡ true) ⊎ (judgment ≡ other) }
+    ensures alike { (effort : ℕ) (explains : Bool) (piece : List ℕ) (judgment other : Judgment) → IsJudgment (asking (Decide effort) explains) piece judgment → IsJudgment (asking (Decide effort) explains) piece other → (says_undecided judgment ≡ true) ⊎ (says_undecided other ≡ true) ⊎ (plain judgment ≡ plain other) }
+    ensures refusal { (question : Question) (piece : List ℕ) (fault : TextFault) → IsJudgment question piece (Judgment.Refused fault) ↔ IsTraceRefusal piece fault.line fault.why }
 {}
 
 /// Texts have a batch, and by the rules one, with one text, one text of notes and one verdict, whatever is printed of them.
@@ -50,12 +54,12 @@ pub fn batches()
 /// first 1,048,577 bytes, the same is said as of the piece.
 pub fn long_pieces()
     ensures refused { (piece text : List ℕ) (verdict : Verdict) → text_byte_limit < length piece → IsReport piece text verdict ↔ ((text ≡ refusal_text 0 Why.TooLong) × (verdict ≡ Verdict.Refused)) }
-    ensures kept { (method : BatchMethod) (piece : List ℕ) (judgment : Judgment) → IsJudgment method (take trace_read_limit piece) judgment ↔ IsJudgment method piece judgment }
+    ensures kept { (question : Question) (piece : List ℕ) (judgment : Judgment) → IsJudgment question (take trace_read_limit piece) judgment ↔ IsJudgment question piece judgment }
 {}
 
 /// The pieces of the texts of traces one after another, as `log --trace` prints them, are these texts: the K-th line of a batch that
 /// isn't quiet is that of the K-th trace.
 pub fn printed_traces()
     ensures pieces { (traces : List TraceValue) (pieces : List (List ℕ)) → ArePieces (flat_map trace_text traces) pieces ↔ (pieces ≡ map trace_text traces) }
-    ensures texts { (printing : BatchPrinting) (name : Option (List ℕ)) (traces : List TraceValue) (text notes : List ℕ) (verdict : BatchVerdict) → IsBatch printing (known_texts ((name, flat_map trace_text traces) ∷ [])) text notes verdict → (judgments : List Judgment) × AreJudgments printing.method (map trace_text traces) judgments × (text ≡ head_text printing ++ (pieces_text (under_name printing name) 1 (map trace_text traces) judgments ++ last_text printing (last_line printing judgments))) }
+    ensures texts { (printing : BatchPrinting) (name : Option (List ℕ)) (traces : List TraceValue) (text notes : List ℕ) (verdict : BatchVerdict) → IsBatch printing (known_texts ((name, flat_map trace_text traces) ∷ [])) text notes verdict → (judgments : List Judgment) × AreJudgments (asked printing) (map trace_text traces) judgments × (text ≡ head_text printing ++ (pieces_text (under_name printing name) 1 (map trace_text traces) judgments ++ last_text printing (last_line printing judgments))) }
 {}

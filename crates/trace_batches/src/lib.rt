@@ -22,6 +22,7 @@ mod names;
 mod notes;
 mod nth_pieces;
 mod piece_readers;
+mod questions;
 mod streams;
 mod suites;
 mod tallies;

@@ -61,9 +61,9 @@ fn note_format(format: BatchFormat) -> BatchFormat
 pub(crate) fn written_line(
     judging: &TextJudging<'_>,
     number: u64,
-    judgment: Judgment,
+    judgment: &Judgment,
 ) -> Result<String, OutOfMemory>
-    ensures { IfOk result (λ line. string_bytes line ≡ written_line (printing_by judging.now) number judgment) }
+    ensures { IfOk result (λ line. string_bytes line ≡ written_line (printing_by judging.now) number judgment.now) }
 {
     if is_left_out(judging.options.printing.quiet, judgment) {
         Ok(String::new(judging.alloc))
@@ -73,12 +73,12 @@ pub(crate) fn written_line(
 }
 
 /// Whether a batch leaves out the line of a trace of which this is said.
-fn is_left_out(quiet: bool, judgment: Judgment) -> bool
-    ensures { result ≡ is_left_out quiet judgment }
+fn is_left_out(quiet: bool, judgment: &Judgment) -> bool
+    ensures { result ≡ is_left_out quiet judgment.now }
 {
     match judgment {
         Judgment::NoViolation | Judgment::Consistent => quiet,
-        Judgment::Violation | Judgment::Undecided(_) | Judgment::Refused(_) => false,
+        Judgment::Violation(_) | Judgment::Undecided(_) | Judgment::Refused(_) => false,
     }
 }
 
@@ -86,9 +86,9 @@ fn is_left_out(quiet: bool, judgment: Judgment) -> bool
 fn trace_line(
     judging: &TextJudging<'_>,
     number: u64,
-    judgment: Judgment,
+    judgment: &Judgment,
 ) -> Result<String, OutOfMemory>
-    ensures { IfOk result (λ line. string_bytes line ≡ trace_line judging.now.options.printing.format judging.now.label.now number judgment) }
+    ensures { IfOk result (λ line. string_bytes line ≡ trace_line judging.now.options.printing.format judging.now.label.now number judgment.now) }
 {
     match judging.options.printing.format {
         BatchFormat::Words => word_line(judging.alloc, judging.label, number, judgment),
@@ -102,20 +102,20 @@ fn word_line(
     alloc: Global,
     label: &str,
     number: u64,
-    judgment: Judgment,
+    judgment: &Judgment,
 ) -> Result<String, OutOfMemory>
-    ensures { IfOk result (λ line. string_bytes line ≡ word_line label.now number judgment) }
+    ensures { IfOk result (λ line. string_bytes line ≡ word_line label.now number judgment.now) }
 {
     match judgment {
         Judgment::NoViolation => numbered(alloc, label, number, verdict_line(false)),
-        Judgment::Violation => numbered(alloc, label, number, verdict_line(true)),
+        Judgment::Violation(_) => numbered(alloc, label, number, verdict_line(true)),
         Judgment::Consistent => numbered(alloc, label, number, "CONSISTENT\n"),
         Judgment::Undecided(steps) => {
             let end = format!(in alloc; "UNDECIDED {steps}\n")?;
             numbered(alloc, label, number, end.as_str())
         }
         Judgment::Refused(fault) => {
-            let refusal = render_refusal(alloc, fault)?;
+            let refusal = render_refusal(alloc, *fault)?;
             numbered(alloc, label, number, refusal.text.as_str())
         }
     }
@@ -135,16 +135,16 @@ fn json_line(
     alloc: Global,
     label: &str,
     number: u64,
-    judgment: Judgment,
+    judgment: &Judgment,
 ) -> Result<String, OutOfMemory>
-    ensures { IfOk result (λ line. string_bytes line ≡ json_line label.now number judgment) }
+    ensures { IfOk result (λ line. string_bytes line ≡ json_line label.now number judgment.now) }
 {
     match judgment {
         Judgment::NoViolation => json_verdict(alloc, label, number, "no_violation_found"),
-        Judgment::Violation => json_verdict(alloc, label, number, "violation"),
+        Judgment::Violation(_) => json_verdict(alloc, label, number, "violation"),
         Judgment::Consistent => json_verdict(alloc, label, number, "consistent"),
-        Judgment::Undecided(steps) => json_undecided(alloc, label, number, steps),
-        Judgment::Refused(fault) => json_refusal(alloc, label, number, fault),
+        Judgment::Undecided(steps) => json_undecided(alloc, label, number, *steps),
+        Judgment::Refused(fault) => json_refusal(alloc, label, number, *fault),
     }
 }
 

@@ -1,6 +1,6 @@
-//! The names of texts, as they stand in the lines of a batch.
+//! The names of texts, and what explains a violation, as they stand in the lines of a batch.
 ghost use Rattle.std.specs.Prelude.{◌≡◌, ◌<◌, ◌++◌, None, Some, IfOk, OnOk, option_map, string_bytes};
-ghost use Rattle.trace_batches.specs.BatchNames.{hexadecimal_digit, control_escape, escaped_name, is_outside_xml, is_xml_space, json_character, name_character, plain_xml_character, text_label, word_character, xml_character};
+ghost use Rattle.trace_batches.specs.BatchNames.{hexadecimal_digit, control_escape, escaped_text, is_outside_xml, is_xml_space, json_character, text_character, plain_xml_character, text_label, word_character, xml_character};
 
 use crate::batches::BatchFormat;
 use std::alloc::Global;
@@ -40,7 +40,7 @@ fn nameless_label(format: BatchFormat) -> &'static str
 fn named_label(alloc: Global, format: BatchFormat, name: &str) -> Result<String, OutOfMemory>
     ensures { IfOk result (λ label. string_bytes label ≡ text_label format (Some name.now)) }
 {
-    let escaped = escaped_name(alloc, format, name)?;
+    let escaped = escaped_text(alloc, format, name)?;
     let mut label = String::new(alloc);
     match format {
         BatchFormat::Words => write!(label, "{escaped}: ")?,
@@ -50,24 +50,28 @@ fn named_label(alloc: Global, format: BatchFormat, name: &str) -> Result<String,
     Ok(label)
 }
 
-/// The name, with what has to be escaped.
-fn escaped_name(alloc: Global, format: BatchFormat, name: &str) -> Result<String, OutOfMemory>
-    ensures { IfOk result (λ escaped. string_bytes escaped ≡ escaped_name format name.now) }
+/// The text, with what has to be escaped. OutOfMemory where an allocation was refused.
+pub(crate) fn escaped_text(
+    alloc: Global,
+    format: BatchFormat,
+    text: &str,
+) -> Result<String, OutOfMemory>
+    ensures { IfOk result (λ escaped. string_bytes escaped ≡ escaped_text format text.now) }
 {
     let mut escaped = String::new(alloc);
-    for character in name.chars() {
+    for character in text.chars() {
         push_character(&mut escaped, format, character)?;
     }
     Ok(escaped)
 }
 
-/// Appends a character of a name.
+/// Appends a character of a text.
 fn push_character(
     text: &mut String,
     format: BatchFormat,
     character: char,
 ) -> Result<(), OutOfMemory>
-    ensures { OnOk result (string_bytes text.new ≡ string_bytes text.old ++ name_character format character) }
+    ensures { OnOk result (string_bytes text.new ≡ string_bytes text.old ++ text_character format character) }
 {
     match format {
         BatchFormat::Words => push_in_words(text, character),
@@ -76,7 +80,7 @@ fn push_character(
     }
 }
 
-/// Appends a character of a name in words.
+/// Appends a character in words.
 fn push_in_words(text: &mut String, character: char) -> Result<(), OutOfMemory>
     ensures { OnOk result (string_bytes text.new ≡ string_bytes text.old ++ word_character character) }
 {
@@ -106,7 +110,7 @@ fn push_digit(text: &mut String, digit: u32) -> Result<(), OutOfMemory>
     Ok(text.push(DIGITS[digit as usize])?)
 }
 
-/// Appends a character of a name in a text of JSON.
+/// Appends a character in a text of JSON.
 fn push_in_json(text: &mut String, character: char) -> Result<(), OutOfMemory>
     ensures { OnOk result (string_bytes text.new ≡ string_bytes text.old ++ json_character character) }
 {
@@ -117,7 +121,7 @@ fn push_in_json(text: &mut String, character: char) -> Result<(), OutOfMemory>
     }
 }
 
-/// Appends a character of a name in an attribute of XML.
+/// Appends a character in an attribute or an element of XML.
 fn push_in_xml(text: &mut String, character: char) -> Result<(), OutOfMemory>
     ensures { OnOk result (string_bytes text.new ≡ string_bytes text.old ++ xml_character character) }
 {

@@ -1,8 +1,10 @@
 //! The suites of a document in JUnit's XML. A suite's numbers come before its tests, so that each trace has a suite of its own.
-ghost use Rattle.std.specs.Prelude.{◌≡◌, ◌++◌, IfOk, codes, string_bytes};
-ghost use Rattle.trace_batches.specs.BatchLines.{junit_error, junit_line, junit_skipped, junit_suite, junit_trace, suite_case, suite_start, total_suite, unread_suite};
+ghost use Rattle.std.specs.Prelude.{◌≡◌, ◌++◌, IfOk, codes, option_map, string_bytes};
+ghost use Rattle.trace_batches.specs.BatchLines.{junit_error, junit_failure, junit_line, junit_skipped, junit_suite, junit_trace, suite_case, suite_start, total_suite, unread_suite};
 
+use crate::batches::BatchFormat;
 use crate::judgments::Judgment;
+use crate::names::escaped_text;
 use std::alloc::Global;
 use tso_ops::OutOfMemory;
 use tso_text::TextFault;
@@ -30,27 +32,24 @@ pub(crate) fn junit_line(
     alloc: Global,
     label: &str,
     number: u64,
-    judgment: Judgment,
+    judgment: &Judgment,
 ) -> Result<String, OutOfMemory>
-    ensures { IfOk result (λ line. string_bytes line ≡ junit_line label.now number judgment) }
+    ensures { IfOk result (λ line. string_bytes line ≡ junit_line label.now number judgment.now) }
 {
     match judgment {
         Judgment::NoViolation | Judgment::Consistent => {
             junit_trace(alloc, label, number, ONE_PASSED, "/>")
         }
         Judgment::Undecided(steps) => {
-            let end = junit_skipped(alloc, steps)?;
+            let end = junit_skipped(alloc, *steps)?;
             junit_trace(alloc, label, number, ONE_SKIPPED, end.as_str())
         }
-        Judgment::Violation => junit_trace(
-            alloc,
-            label,
-            number,
-            ONE_FAILED,
-            "><failure message=\"VIOLATION\"/></testcase>",
-        ),
+        Judgment::Violation(body) => {
+            let end = junit_failure(alloc, body.text())?;
+            junit_trace(alloc, label, number, ONE_FAILED, end.as_str())
+        }
         Judgment::Refused(fault) => {
-            let end = junit_error(alloc, fault)?;
+            let end = junit_error(alloc, *fault)?;
             junit_trace(alloc, label, number, ONE_ERROR, end.as_str())
         }
     }
@@ -101,6 +100,19 @@ fn suite_case(alloc: Global, label: &str, name: &str, end: &str) -> Result<Strin
     ensures { IfOk result (λ text. string_bytes text ≡ suite_case label.now name.now end.now) }
 {
     format!(in alloc; "<testcase classname=\"{label}\" name=\"{name}\"{end}</testsuite>\n")
+}
+
+/// The end of the test case of a violation, with what explains it where that is asked for.
+fn junit_failure(alloc: Global, body: Option<&str>) -> Result<String, OutOfMemory>
+    ensures { IfOk result (λ end. string_bytes end ≡ junit_failure (option_map (λ text. text.now) body.entry)) }
+{
+    match body {
+        Some(text) => {
+            let text = escaped_text(alloc, BatchFormat::Junit, text)?;
+            format!(in alloc; "><failure message=\"VIOLATION\">{text}</failure></testcase>")
+        }
+        None => Ok(String::from_str(alloc, "><failure message=\"VIOLATION\"/></testcase>")?),
+    }
 }
 
 /// The end of the test case of a text that is refused for this fault.

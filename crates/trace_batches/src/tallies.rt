@@ -48,17 +48,17 @@ impl Tally {
     }
 
     /// Counts what is said of a trace. Read where there were 2^64 - 1 before.
-    pub(crate) fn count(&mut self, judgment: Judgment) -> Result<(), Fault>
-        ensures counted { OnOk result ((judgments : List Judgment) → Counts self.old judgments → Counts self.new (judgments ++ judgment ∷ [])) }
+    pub(crate) fn count(&mut self, judgment: &Judgment) -> Result<(), Fault>
+        ensures counted { OnOk result ((judgments : List Judgment) → Counts self.old judgments → Counts self.new (judgments ++ judgment.now ∷ [])) }
         ensures traces { OnOk result (self.new.traces ≡ self.old.traces + 1) }
-        ensures violations { OnOk result (self.new.violations ≡ kept_with self.old.violations judgment) }
+        ensures violations { OnOk result (self.new.violations ≡ kept_with self.old.violations judgment.now) }
         ensures fault { IfErr result (λ fault. fault ≡ Fault.Read) }
     {
         self.traces = sum(self.traces, 1)?;
         match judgment {
             Judgment::NoViolation => {}
             Judgment::Consistent => self.consistent = sum(self.consistent, 1)?,
-            Judgment::Violation => self.violations = sum(self.violations, 1)?,
+            Judgment::Violation(_) => self.violations = sum(self.violations, 1)?,
             Judgment::Undecided(_) => self.undecided = sum(self.undecided, 1)?,
             Judgment::Refused(_) => self.refused = sum(self.refused, 1)?,
         }

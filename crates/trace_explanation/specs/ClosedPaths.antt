@@ -38,9 +38,14 @@ is_elsewhere t a link = not (on_one_processor t link.0 link.1) && not (address_a
 abbrev pub leaves_address : TraceValue → ℕ → List ℕ → Bool
 leaves_address t a cycle = list_any (is_elsewhere t a) (links_of cycle)
 
--- a load missed the store that an earlier load of its processor read, or an own store: this shows which of two stores comes first, and no more
+-- a swap's load missed a store that the swap's store comes after
+abbrev pub is_torn : List ℕ → Bool
+is_torn shape = bytes_eq shape (codes "Coe Fre")
+
+-- a load missed the store that an earlier load of its processor read, or an own store, or is that of a swap: this shows which of two stores comes first,
+-- and no more
 abbrev pub shows_order : List ℕ → Bool
-shows_order shape = bytes_eq shape (codes "Rfe PosRR Fre") || bytes_eq shape (codes "PosWR Fri")
+shows_order shape = bytes_eq shape (codes "Rfe PosRR Fre") || bytes_eq shape (codes "PosWR Fri") || is_torn shape
 
 -- The walk from a store to a load that missed it only shows that this store comes before what the load read, and it is the path by which what the
 -- load read comes before the store that has the shape of the violation.

@@ -5,12 +5,11 @@ use Rattle.std.specs.Option.{option_map_or}
 use Rattle.std.specs.List.{find}
 use Rattle.tso_ops.specs.Values.{TraceValue}
 use Rattle.tso_cert.specs.declared.steps.CertStep.{CertStep}
-use Rattle.trace_explanation.specs.declared.unfolded_cycles.EdgeKind.TheVariants.{FromRead}
 use Rattle.trace_explanation.specs.ClosedPaths.{closing_path, stale_cycle}
 use Rattle.trace_explanation.specs.CycleShapes.{last_of}
-use Rattle.trace_explanation.specs.Diagnoses.{is_direct, missed_path}
+use Rattle.trace_explanation.specs.Diagnoses.{is_direct, missed_path, stale_walk}
 use Rattle.trace_explanation.specs.Steps.{is_edge}
-use Rattle.trace_explanation.specs.UnfoldedCycles.{missed_walk, unfolded_cycle, walk_by}
+use Rattle.trace_explanation.specs.UnfoldedCycles.{missed_walk, unfolded_cycle}
 
 -- by this path from a store to a load that missed it: the path where it has the shape of the cycle, else the walk to the store from what the load read
 abbrev pub missed_cycle : TraceValue → List ℕ → List ℕ → List ℕ
@@ -23,7 +22,7 @@ missed_by_steps t steps walk = option_map_or (λ s. missed_cycle t walk (missed_
 -- the walk of which the diagnosis of this cycle says the shape, or the cycle itself where it has neither a from-read nor a missed store
 unfoldable pub named_cycle : TraceValue → List CertStep → List ℕ → List ℕ
 named_cycle t steps cycle =
-    option_map_or (λ walk. stale_cycle t steps walk (closing_path steps walk)) (walk_by steps FromRead cycle)
+    option_map_or (λ walk. stale_cycle t steps walk (closing_path steps walk)) (stale_walk t steps cycle)
     (option_map_or (missed_by_steps t steps) (missed_walk steps cycle) cycle)
 
 -- the same by the cycle of a certificate

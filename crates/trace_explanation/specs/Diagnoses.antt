@@ -1,5 +1,5 @@
 -- The line that begins the explanation of a cycle: a load of it that read something too old, or a store that comes later, and what the cycle is called.
-use Rattle.std.specs.Prelude.{ℕ, ◌==◌, ◌&&◌, ◌||◌, Bool, not, nat_lt, List, [], ◌∷◌, ◌++◌, reverse, get_or, cond, codes}
+use Rattle.std.specs.Prelude.{ℕ, ◌==◌, ◌&&◌, ◌||◌, Bool, false, not, nat_lt, List, [], ◌∷◌, ◌++◌, reverse, get_or, Option, Some, None, cond, codes}
 use Rattle.std.specs.Option.{option_map_or, option_to_list}
 use Rattle.std.specs.List.{find}
 use Rattle.std.specs.Fmt.{decimal}
@@ -11,7 +11,7 @@ use Rattle.trace_explanation.specs.JoinedTexts.{joined}
 use Rattle.trace_explanation.specs.declared.subjects.Subject.{Subject}
 use Rattle.trace_explanation.specs.declared.subjects.Subject.TheVariants.{Trace, Log}
 use Rattle.trace_explanation.specs.declared.unfolded_cycles.EdgeKind.TheVariants.{FromRead, ReadFrom}
-use Rattle.trace_explanation.specs.ClosedPaths.{closing_path, leaves_address, only_closes, stale_cycle}
+use Rattle.trace_explanation.specs.ClosedPaths.{closing_path, is_torn, leaves_address, only_closes, stale_cycle}
 use Rattle.trace_explanation.specs.Names.{address_at, source_of}
 use Rattle.trace_explanation.specs.Namings.{address_named, line_named, processor_named, NamingValue}
 use Rattle.trace_explanation.specs.Steps.{is_edge, is_number, links_of, own_load}
@@ -102,6 +102,23 @@ unfoldable pub missed_line : NamingValue → TraceValue → List CertStep → Li
 missed_line naming t steps walk =
     option_map_or (λ s. missed_by naming t walk (missed_path t s.from s.to s.reason)) (find (is_edge (last_of walk, get_or walk 0 0)) steps) []
 
+-- this path, by which a load sees the store that it missed, begins on the load's processor or goes over another address
+abbrev pub tells_more : TraceValue → ℕ → List ℕ → Bool
+tells_more t u path = on_one_processor t u (last_of path) || leaves_address t (address_at t u) path
+
+-- the path does by which a load sees the store that it missed, to which this walk leads from what it read
+abbrev pub misses_more : TraceValue → List CertStep → List ℕ → Bool
+misses_more t steps walk = option_map_or (λ s. tells_more t (last_of walk) (missed_path t s.from s.to s.reason)) (find (is_edge (last_of walk, get_or walk 0 0)) steps) false
+
+-- in the cycle the walk from a store to a swap's load that missed it only shows that these stores have two orders, and another load missed one of them
+abbrev pub gives_way : TraceValue → List CertStep → List ℕ → List ℕ → Bool
+gives_way t steps cycle walk =
+    is_torn (cycle_shape t walk) && not (only_closes t walk (closing_path steps walk)) && option_map_or (misses_more t steps) (missed_walk steps cycle) false
+
+-- the walk from a store to the first load that missed it, unless it gives way to that of another load
+abbrev pub stale_walk : TraceValue → List CertStep → List ℕ → Option (List ℕ)
+stale_walk t steps cycle = option_map_or (λ walk. cond (gives_way t steps cycle walk) None (Some walk)) (walk_by steps FromRead cycle) None
+
 -- a walk from a load to a store that it read
 unfoldable pub future_line : NamingValue → TraceValue → List ℕ → List ℕ
 future_line naming t walk = joined (
@@ -111,7 +128,7 @@ future_line naming t walk = joined (
 -- of the first load that read something older than a store of the cycle, or missed one, or read from a later store
 unfoldable pub diagnosis_by : NamingValue → TraceValue → List CertStep → List ℕ → List ℕ
 diagnosis_by naming t steps cycle =
-    option_map_or (λ walk. stale_by naming t steps walk (closing_path steps walk)) (walk_by steps FromRead cycle)
+    option_map_or (λ walk. stale_by naming t steps walk (closing_path steps walk)) (stale_walk t steps cycle)
     (option_map_or (missed_line naming t steps) (missed_walk steps cycle) (option_map_or (future_line naming t) (walk_by steps ReadFrom cycle) []))
 
 -- the line of a cycle

@@ -1,7 +1,7 @@
 //! Loads that only show which of two stores comes first, and the cycle of these stores.
 ghost use Rattle.std.specs.Prelude.{◌≡◌, IfOk};
 ghost use Rattle.std.specs.List.{list_any};
-ghost use Rattle.trace_explanation.specs.ClosedPaths.{closed_path, closing_path, is_elsewhere, leaves_address, only_closes, reason_path, shows_order, stale_cycle};
+ghost use Rattle.trace_explanation.specs.ClosedPaths.{closed_path, closing_path, is_elsewhere, is_torn, leaves_address, only_closes, reason_path, shows_order, stale_cycle};
 
 use crate::cycle_shapes::{cycle_shape, last_of, on_one_processor};
 use crate::links::list_links;
@@ -67,11 +67,19 @@ pub(crate) fn only_closes(
     Ok(item(path, 0) > 0 && shows_order(&shape) && leaves)
 }
 
-/// Whether a load missed the store that an earlier load of its processor read, or an own store, in a cycle of this shape.
+/// Whether a load missed the store that an earlier load of its processor read, or an own store, or is that of a swap, in a cycle of
+/// this shape.
 fn shows_order(shape: &str) -> bool
     ensures { result ≡ shows_order shape.now }
 {
-    shape == "Rfe PosRR Fre" || shape == "PosWR Fri"
+    shape == "Rfe PosRR Fre" || shape == "PosWR Fri" || is_torn(shape)
+}
+
+/// Whether a swap's load missed a store that the swap's store comes after, in a cycle of this shape.
+pub(crate) fn is_torn(shape: &str) -> bool
+    ensures { result ≡ is_torn shape.now }
+{
+    shape == "Coe Fre"
 }
 
 /// Whether the cycle isn't about this address alone. OutOfMemory where an allocation was refused.

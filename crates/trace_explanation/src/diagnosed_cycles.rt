@@ -4,9 +4,9 @@ ghost use Rattle.trace_explanation.specs.DiagnosedCycles.{diagnosed_cycle, misse
 
 use crate::closed_paths::{closing_path, stale_cycle};
 use crate::cycle_shapes::last_of;
-use crate::diagnoses::{is_direct, missed_path};
+use crate::diagnoses::{is_direct, missed_path, stale_walk};
 use crate::numbers::NumberedSteps;
-use crate::unfolded_cycles::{EdgeKind, item, missed_walk, unfolded_cycle, walk_by};
+use crate::unfolded_cycles::{item, missed_walk, unfolded_cycle};
 use std::alloc::{AllocError, Global};
 use tso_ops::Trace;
 
@@ -34,7 +34,7 @@ fn named_cycle(
 ) -> Result<Vec<u64>, AllocError>
     ensures { IfOk result (λ numbers. numbers.items ≡ named_cycle trace.now numbered.now cycle.now) }
 {
-    if let Some(walk) = walk_by(alloc, numbered, EdgeKind::FromRead, cycle)? {
+    if let Some(walk) = stale_walk(alloc, trace, numbered, cycle)? {
         let path = closing_path(numbered, &walk);
         return stale_cycle(alloc, trace, numbered, &walk, path);
     }

@@ -1,10 +1,10 @@
 //! The line that begins the explanation of a cycle.
-ghost use Rattle.std.specs.Prelude.{◌≡◌, ◌++◌, string_bytes, OnOk, IfOk};
-ghost use Rattle.trace_explanation.specs.Diagnoses.{diagnosis_by, diagnosis_text, future_line, is_direct, missed_by, missed_line, missed_path, stale_by, stale_line};
+ghost use Rattle.std.specs.Prelude.{◌≡◌, ◌++◌, option_map, string_bytes, OnOk, IfOk};
+ghost use Rattle.trace_explanation.specs.Diagnoses.{diagnosis_by, diagnosis_text, future_line, gives_way, is_direct, missed_by, missed_line, missed_path, misses_more, stale_by, stale_line, stale_walk, tells_more};
 
-use crate::closed_paths::{closing_path, leaves_address, only_closes, stale_cycle};
+use crate::closed_paths::{closing_path, is_torn, leaves_address, only_closes, stale_cycle};
 use crate::cycle_names::shape_text;
-use crate::cycle_shapes::{cycle_shape, last_of};
+use crate::cycle_shapes::{cycle_shape, last_of, on_one_processor};
 use crate::diagnosis_words::{before_words, load_words, order_words, place_words, store_words};
 use crate::loads::own_load;
 use crate::names::{NamedTrace, address_of};
@@ -28,7 +28,7 @@ pub(crate) fn push_diagnosis(
     ensures { OnOk result (string_bytes text.new ≡ string_bytes text.old ++ diagnosis_text named.now.names.now named.now.trace.now numbered.now cycle.now) }
 {
     let cycle = unfolded_cycle(alloc, numbered, cycle)?;
-    if let Some(walk) = walk_by(alloc, numbered, EdgeKind::FromRead, &cycle)? {
+    if let Some(walk) = stale_walk(alloc, named.trace, numbered, &cycle)? {
         let path = closing_path(numbered, &walk);
         return push_stale_by(alloc, text, named, numbered, &walk, path);
     }
@@ -39,6 +39,76 @@ pub(crate) fn push_diagnosis(
         Some(walk) => push_future(alloc, text, named, &walk),
         None => Ok(()),
     }
+}
+
+/// The walk from a store to the first load that missed it, unless it gives way to that of another load. OutOfMemory where an
+/// allocation was refused.
+pub(crate) fn stale_walk(
+    alloc: Global,
+    trace: &Trace,
+    numbered: &NumberedSteps<'_>,
+    cycle: &[u64],
+) -> Result<Option<Vec<u64>>, AllocError>
+    ensures { IfOk result (λ walk. option_map (λ w. w.items) walk ≡ stale_walk trace.now numbered.now cycle.now) }
+{
+    match walk_by(alloc, numbered, EdgeKind::FromRead, cycle)? {
+        Some(walk) => {
+            if gives_way(alloc, trace, numbered, cycle, &walk)? {
+                Ok(None)
+            } else {
+                Ok(Some(walk))
+            }
+        }
+        None => Ok(None),
+    }
+}
+
+/// Whether in the cycle the walk from a store to a swap's load that missed it only shows that these stores have two orders, and
+/// another load missed one of them.
+fn gives_way(
+    alloc: Global,
+    trace: &Trace,
+    numbered: &NumberedSteps<'_>,
+    cycle: &[u64],
+    walk: &[u64],
+) -> Result<bool, AllocError>
+    ensures { IfOk result (λ gives. gives ≡ gives_way trace.now numbered.now cycle.now walk.now) }
+{
+    let shape = cycle_shape(alloc, trace, walk)?;
+    let closes = only_closes(alloc, trace, walk, closing_path(numbered, walk))?;
+    let tells_more = match missed_walk(alloc, numbered, cycle)? {
+        Some(missed) => misses_more(alloc, trace, numbered, &missed)?,
+        None => false,
+    };
+    Ok(is_torn(&shape) && !closes && tells_more)
+}
+
+/// Whether the path by which a load sees the store that it missed, to which this walk leads from what it read, begins on the load's
+/// processor or goes over another address.
+fn misses_more(
+    alloc: Global,
+    trace: &Trace,
+    numbered: &NumberedSteps<'_>,
+    walk: &[u64],
+) -> Result<bool, AllocError>
+    ensures { IfOk result (λ misses. misses ≡ misses_more trace.now numbered.now walk.now) }
+{
+    let store = last_of(walk);
+    match numbered.step(store, item(walk, 0)) {
+        Some(step) => {
+            let path = missed_path(alloc, trace, step)?;
+            tells_more(alloc, trace, store as usize, &path)
+        }
+        None => Ok(false),
+    }
+}
+
+/// Whether this path, by which a load sees store `u`, begins on the load's processor or goes over another address.
+fn tells_more(alloc: Global, trace: &Trace, u: usize, path: &[u64]) -> Result<bool, AllocError>
+    ensures { IfOk result (λ tells. tells ≡ tells_more trace.now u path.now) }
+{
+    let leaves = leaves_address(alloc, trace, address_of(trace, u), path)?;
+    Ok(on_one_processor(trace, u, last_of(path) as usize) || leaves)
 }
 
 /// Appends the line of a walk from a store to a load that read something older, by the path to the store from what it read.

@@ -1,5 +1,4 @@
 pub mod CheckFacts
-pub mod MakingFacts
 pub mod EntryFacts
 pub mod EventFacts
 pub mod LimitFacts
@@ -14,4 +13,3 @@ pub mod SameFacts
 pub mod SwapFacts
 pub mod TableFacts
 pub mod TallyFacts
-pub mod WordFacts

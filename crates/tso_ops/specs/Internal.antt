@@ -1,5 +1,4 @@
 -- What private tables keep and how far loops have come. No public contract uses these definitions.
-pub mod MadeOps
 pub mod Entries
 pub mod MaskTables
 pub mod Tables

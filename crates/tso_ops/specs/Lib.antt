@@ -1,4 +1,3 @@
-pub mod Making
 pub mod Events
 pub mod Internal
 pub mod Limits

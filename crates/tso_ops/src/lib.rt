@@ -6,13 +6,11 @@
 pub use acts::Act;
 pub use events::{Event, Source};
 pub use faults::{OutOfMemory, Refused, RefusedFirst, ValueFault};
-pub use limits::Tally;
-pub use making::{make_program, make_program_with_order};
+pub use limits::{MAX_ADDRESS, MAX_PROCESSORS, Tally};
 pub use operations::{EventOperation, Operations, Part};
 pub use ops::{Op, Outcome};
 pub use programs::Program;
 pub use settings::{Order, Setting, Version};
-pub use shapes::Shape;
 pub use traces::Trace;
 
 mod acts;
@@ -22,13 +20,11 @@ mod events;
 mod faults;
 pub mod laws;
 mod limits;
-mod making;
 mod masks;
 mod operations;
 mod ops;
 mod predicates;
 mod programs;
 mod settings;
-mod shapes;
 mod tables;
 mod traces;

@@ -69,8 +69,8 @@ impl Op {
         }
     }
 
-    /// The value that the operation writes.
-    pub(crate) fn stored(self) -> Option<u64>
+    /// The value that the operation writes, if it is a store or a swap.
+    pub fn stored(self) -> Option<u64>
         ensures { result ≡ stored_by self }
     {
         match self {

@@ -6,8 +6,8 @@ use Rattle.std.proofs.lemmas.Bool.{cases_eq}
 use Rattle.std.specs.Global.{Vec}
 use Rattle.std.proofs.lemmas.List.Folds.{concat-append}
 use Rattle.std.proofs.lemmas.List.{append-nil, length-take-le, take_more, get_or-map, get_or-replicate, get_or-set_other, get_or-set_same, length-map, length-replicate}
-use Rattle.tso_ops.specs.Making as Making
-use Rattle.tso_ops.specs.Making.{ShapeValue}
+use Rattle.drawn_programs.specs.Making as Making
+use Rattle.drawn_programs.specs.Making.{ShapeValue}
 use Rattle.tso_ops.specs.Values.{ProgramValue, TraceValue, rows}
 use Rattle.tso_model.specs.Axioms.{IsConsistent}
 use Rattle.tso_ops.specs.declared.settings.Order.{Order}

@@ -2,7 +2,7 @@
 use Rattle.std.proofs.Common.{◌≡◌, ◌∙◌, ap, refl, sym, ℕ, zero, suc, ◌+◌, List, [], ◌∷◌, ◌++◌, map, suc-add}
 use Rattle.std.proofs.lemmas.List.{map-append}
 use Rattle.rand_core.specs.Stream.{Stream, next_u64}
-use Rattle.tso_ops.specs.Making.{after_words, words_of}
+use Rattle.drawn_programs.specs.Making.{after_words, words_of}
 
 pub words_of-none : (s : Stream) → words_of 0 s ≡ []
 unfolding words_of

@@ -11,7 +11,7 @@ use Rattle.issue_desk.specs.Running.{IsRunOf}
 use Rattle.tso_ops.specs.declared.acts.Act.{Act}
 use Rattle.tso_ops.specs.declared.settings.Order.{Order}
 use Rattle.tso_ops.specs.declared.settings.Order.TheVariants.{Tso}
-use Rattle.tso_ops.specs.Making.{ShapeValue, after_words, made_program_with_order, size_of, words_of}
+use Rattle.drawn_programs.specs.Making.{ShapeValue, after_words, made_program_with_order, size_of, words_of}
 use Rattle.tso_ops.specs.Values.{ProgramValue, TraceValue}
 use Rattle.tso_text.specs.Printed.{trace_text}
 use Rattle.unit_core.specs.declared.accounts.Account.{Account}

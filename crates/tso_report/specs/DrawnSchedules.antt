@@ -3,7 +3,7 @@ use Rattle.std.specs.Prelude.{ℕ, ◌*◌, ◌/◌, ◌%◌, cond, nat_lt, List
 use Rattle.rand_core.specs.Stream.{Stream, next_u64}
 use Rattle.tso_ops.specs.declared.acts.Act.{Act}
 use Rattle.tso_ops.specs.declared.acts.Act.TheVariants.{Issue, Drain}
-use Rattle.tso_ops.specs.Making.{ShapeValue, size_of, words_of}
+use Rattle.drawn_programs.specs.Making.{ShapeValue, size_of, words_of}
 
 -- how many of 16 acts are drains, on average: the word draws 0, 1, 3 or 8
 abbrev pub drain_weight : ℕ → ℕ

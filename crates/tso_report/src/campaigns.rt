@@ -7,6 +7,7 @@ ghost use Rattle.tso_report.specs.Internal.Gathering.{AreUnitsFrom};
 ghost use Rattle.tso_report.specs.Limits.{seed_count_limit};
 ghost use Rattle.trace_judging.specs.WrittenReports.{WritesWhole};
 
+use drawn_programs::Shape;
 use gathering::Gathered;
 use lines::campaign_text;
 use progress_meters::{Meter, NoMeter};
@@ -18,7 +19,7 @@ use std::sync::Wait;
 use std::thread::Threads;
 use trace_judging::{Fault, write_text};
 use trace_reports::Verdict;
-use tso_ops::{Order, Shape};
+use tso_ops::Order;
 use unit_core::MemoryUnit;
 use workers::gather;
 

@@ -1,4 +1,5 @@
-//! The calls that the READMEs of the crates show, so that they compile and are proved.
+//! The calls that the READMEs of the crates show, so that they compile and are proved; those of the two highest crates stand in
+//! `request_serving_tests`.
 #![tactic(auto)]
 
 pub mod answers;

@@ -1,16 +1,17 @@
 //! Prints the program that is made from a seed, or its schedule.
 ghost use Rattle.std.specs.Prelude.{◌≡◌, ◌⊎◌, IfOk, IfErr, MatchOption, string_bytes};
-ghost use Rattle.tso_ops.specs.Making.{IsShape};
+ghost use Rattle.drawn_programs.specs.Making.{IsShape};
 ghost use Rattle.request_serving.specs.MadePrograms.{IsMadeText, LeavesMadeText, asked_shape, made_text};
 ghost use Rattle.trace_judging.specs.WrittenReports.{WritesWhole};
 
 use crate::endings::{DONE, REFUSED};
 use crate::printing::Printed;
 use command_line::{MakeOptions, ShapeNumbers};
+use drawn_programs::Shape;
 use std::alloc::Global;
 use std::io::Write;
 use trace_judging::{Fault, write_text};
-use tso_ops::{OutOfMemory, Shape};
+use tso_ops::OutOfMemory;
 use tso_report::{seeded_program_with_order, seeded_schedule};
 use tso_text::{print_program, print_schedule};
 

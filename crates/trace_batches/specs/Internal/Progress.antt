@@ -7,29 +7,29 @@ use Rattle.trace_judging.specs.declared.faults.Fault.{Fault}
 use Rattle.trace_judging.specs.Limits.{trace_read_limit}
 use Rattle.trace_reports.specs.Readings.{ReadsAs}
 use Rattle.trace_judging.specs.Streams.{AppendsPrefix}
-use Rattle.trace_batches.specs.declared.batches.BatchMethod.{BatchMethod}
 use Rattle.trace_batches.specs.declared.batches.TextJudging.{TextJudging}
 use Rattle.trace_batches.specs.declared.jobs.Job.{Job}
 use Rattle.trace_batches.specs.declared.judgments.Judgment.{Judgment}
+use Rattle.trace_batches.specs.declared.questions.Question.{Question}
 use Rattle.trace_batches.specs.declared.tallies.Tally.{Tally}
-use Rattle.trace_batches.specs.Batches.{AreResults, Counts, IsBatchFault, TextPrinting, count_violations, pieces_notes, pieces_text}
+use Rattle.trace_batches.specs.Batches.{AreResults, asked, Counts, IsBatchFault, TextPrinting, count_violations, pieces_notes, pieces_text}
 use Rattle.trace_batches.specs.Judgments.{AreJudgments, IsJudgment}
 
 -- ---- jobs
 
 -- what judging the piece gave: what is said of it, or why nothing is
-abbrev pub IsOutcome : BatchMethod → List ℕ → Result Judgment Fault → Type 0
-IsOutcome method piece (Ok judgment) = IsJudgment method piece judgment
-IsOutcome method piece (Err fault) = IsBatchFault fault
+abbrev pub IsOutcome : Question → List ℕ → Result Judgment Fault → Type 0
+IsOutcome question piece (Ok judgment) = IsJudgment question piece judgment
+IsOutcome question piece (Err fault) = IsBatchFault fault
 
 -- the job holds the piece, and judged it
-abbrev pub IsJobOf : BatchMethod → List ℕ → Job → Type 0
-IsJobOf method piece job = (job.piece.items ≡ piece) × IsOutcome method piece job.outcome
+abbrev pub IsJobOf : Question → List ℕ → Job → Type 0
+IsJobOf question piece job = (job.piece.items ≡ piece) × IsOutcome question piece job.outcome
 
 -- these pieces were judged by the jobs, one each
-pub record AreJudged (method : BatchMethod) (pieces : List (List ℕ)) (jobs : List Job) : Type 0 where
+pub record AreJudged (question : Question) (pieces : List (List ℕ)) (jobs : List Job) : Type 0 where
   pub one_each : length jobs ≡ length pieces
-  pub each : (i : ℕ) (d : Job) → i < length pieces → IsJobOf method (get_or pieces i []) (get_or jobs i d)
+  pub each : (i : ℕ) (d : Job) → i < length pieces → IsJobOf question (get_or pieces i []) (get_or jobs i d)
 
 -- ---- what was counted and written
 
@@ -37,7 +37,7 @@ pub record AreJudged (method : BatchMethod) (pieces : List (List ℕ)) (jobs : L
 -- were counted.
 pub record WroteAll (of : TextPrinting) (kept : ℕ) (before after : Tally) (pieces : List (List ℕ)) (old new errors_before errors : Option (List ℕ)) : Type 0 where
   pub judgments : List Judgment
-  pub are_judgments : AreJudgments of.printing.method pieces judgments
+  pub are_judgments : AreJudgments (asked of.printing) pieces judgments
   pub counts : (earlier : List Judgment) → Counts before earlier → Counts after (earlier ++ judgments)
   pub traces : after.traces ≡ before.traces + length judgments
   pub violations : after.violations ≡ before.violations + count_violations judgments
@@ -48,7 +48,7 @@ pub record WroteAll (of : TextPrinting) (kept : ℕ) (before after : Tally) (pie
 pub record WroteSome (of : TextPrinting) (kept : ℕ) (before : Tally) (pieces : List (List ℕ)) (old new errors_before errors : Option (List ℕ)) : Type 0 where
   pub count : ℕ
   pub judgments : List Judgment
-  pub are_judgments : AreJudgments of.printing.method (take count pieces) judgments
+  pub are_judgments : AreJudgments (asked of.printing) (take count pieces) judgments
   pub written : AppendsPrefix old new (pieces_text of (suc before.traces) (take count pieces) judgments)
   pub noted : AppendsPrefix errors_before errors (pieces_notes of (kept + before.violations) (suc before.traces) judgments)
 
@@ -64,7 +64,7 @@ pub record Stands (of : TextPrinting) (kept : ℕ) (remaining now old new errors
   pub limit : cutter.limit ≡ trace_read_limit
   pub at : IsAt cutter rest
   pub judgments : List Judgment
-  pub are_judgments : AreJudgments of.printing.method ended judgments
+  pub are_judgments : AreJudgments (asked of.printing) ended judgments
   pub counts : Counts tally judgments
   pub written : Appends old new (pieces_text of 1 ended judgments)
   pub noted : Appends errors_before errors (pieces_notes of kept 1 judgments)
@@ -75,7 +75,7 @@ pub record Told (of : TextPrinting) (kept : ℕ) (remaining old new errors_befor
   pub all : IfSome remaining (λ bytes. stream ≡ bytes)
   pub pieces : List (List ℕ)
   pub judgments : List Judgment
-  pub are_results : AreResults of.printing.method stream pieces judgments
+  pub are_results : AreResults (asked of.printing) stream pieces judgments
   pub counts : Counts tally judgments
   pub written : Appends old new (pieces_text of 1 pieces judgments)
   pub noted : Appends errors_before errors (pieces_notes of kept 1 judgments)
@@ -83,7 +83,7 @@ pub record Told (of : TextPrinting) (kept : ℕ) (remaining old new errors_befor
 -- A prefix of what is printed of the pieces of the stream was written, and one of the notes on them.
 abbrev pub LeavesPieces : TextPrinting → ℕ → Option (List ℕ) → Option (List ℕ) → Option (List ℕ) → Option (List ℕ) → Option (List ℕ) → Type 0
 LeavesPieces of kept remaining old new errors_before errors =
-    (pieces : List (List ℕ)) × (judgments : List Judgment) × ReadsAs remaining (λ stream. AreResults of.printing.method stream pieces judgments) × AppendsPrefix old new (pieces_text of 1 pieces judgments)
+    (pieces : List (List ℕ)) × (judgments : List Judgment) × ReadsAs remaining (λ stream. AreResults (asked of.printing) stream pieces judgments) × AppendsPrefix old new (pieces_text of 1 pieces judgments)
     × AppendsPrefix errors_before errors (pieces_notes of kept 1 judgments)
 
 -- how the pieces of a text are printed

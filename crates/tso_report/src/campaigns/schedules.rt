@@ -1,13 +1,14 @@
 //! The schedule that a seed draws, by which its program is replayed.
 ghost use Rattle.std.specs.Prelude.{◌≡◌, ◌≤◌, IfOk, map};
-ghost use Rattle.tso_ops.specs.Making.{after_words, words_of};
+ghost use Rattle.drawn_programs.specs.Making.{after_words, words_of};
 ghost use Rattle.tso_report.specs.Campaigns.{schedule_of_seed};
 ghost use Rattle.tso_report.specs.DrawnSchedules.{act_of_word, drain_weight};
 
+use drawn_programs::Shape;
 use rand_core::{Rng, SeedableRng};
 use rand_pcg::Pcg64;
 use std::alloc::Global;
-use tso_ops::{Act, OutOfMemory, Shape};
+use tso_ops::{Act, OutOfMemory};
 
 /// How many acts are drawn for each operation of the program.
 const ACTS_OF_OPERATION: u64 = 3;

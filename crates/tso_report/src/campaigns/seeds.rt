@@ -7,6 +7,7 @@ ghost use Rattle.tso_report.specs.Internal.Gathering.{IsKept, IsKnown, fault_of_
 
 use super::schedules::seeded_schedule;
 use super::{CampaignPlan, CampaignPrinting, Execution};
+use drawn_programs::{Shape, make_program_with_order};
 use issue_desk::{Issuers, OpenGate, RunFault, RunThreads, run_with_drainer_over};
 use rand_core::SeedableRng;
 use rand_pcg::Pcg64;
@@ -16,7 +17,7 @@ use std::sync::Wait;
 use std::thread::Threads;
 use trace_judging::{Fault, judge_trace};
 use trace_reports::AsReport;
-use tso_ops::{Act, Order, OutOfMemory, Program, Shape, Trace, make_program_with_order};
+use tso_ops::{Act, Order, OutOfMemory, Program, Trace};
 use tso_text::print_trace;
 use unit_core::{Account, MemoryUnit, Recorded, replay_over};
 

@@ -7,6 +7,3 @@ returns-then-is_shown_acyclic-clause-said g c = λ violation. elim violation [
   | inl unwritten ↦ none_holds c.least_unwritten.result _ _ c.if-is_none.ensures c.least_unwritten.ensures unwritten.0 unwritten.1
   | inr cycle ↦ c.is_shown_acyclic.ensures c.if-is_shown_acyclic.true cycle
 ]
-
-pub returns-clause-said : goal.returns-clause-said
-returns-clause-said g c = c.judgment_by.ensures c.args.trace.now c.in_ok-finding.ensures.found

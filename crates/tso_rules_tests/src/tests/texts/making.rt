@@ -2,13 +2,14 @@
 ghost use Rattle.std.specs.Prelude.{ℕ, ◌%◌, ◌/◌};
 ghost use Rattle.rand_core.specs.Steps.{steps_u64_low, stream_of};
 
+use drawn_programs::{Shape, make_program, make_program_with_order};
 use rand_core::utils::NextWord;
 use rand_core::{Rng, utils};
 use std::alloc::Global;
 use std::marker::Model;
 use std::test::Fail;
 use traces_for_tests::{expect_equal, program_of};
-use tso_ops::{Op, Order, Program, Shape, make_program, make_program_with_order};
+use tso_ops::{Op, Order, Program};
 
 /// A generator whose words are the bytes of a number, the low one first, and 0 after them.
 #[derive(Drop)]

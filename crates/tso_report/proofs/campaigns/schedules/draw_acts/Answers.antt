@@ -1,6 +1,6 @@
 use Rattle.std.proofs.Common.{◌∙◌, ap, map, sym}
 use Rattle.rand_core.specs.Stream.{next_u64}
-use Rattle.tso_ops.proofs.WordFacts.{after_words-none, after_words-more}
+use Rattle.drawn_programs.proofs.WordFacts.{after_words-none, after_words-more}
 use Rattle.tso_report.specs.DrawnSchedules.{act_of_word}
 use Rattle.tso_report.proofs.DrawnScheduleFacts.{drawn-more, words_of-none}
 use Rattle.tso_report.proofs.campaigns.schedules.draw_acts.Goals as goal

@@ -1,5 +1,5 @@
 use Rattle.std.proofs.Common.{◌≡◌, map}
-use Rattle.tso_ops.specs.Making.{after_words, words_of}
+use Rattle.drawn_programs.specs.Making.{after_words, words_of}
 use Rattle.tso_report.specs.DrawnSchedules.{act_of_word}
 use Rattle.tso_report.proofs.campaigns.schedules.draw_acts.Given as goal
 

@@ -1,6 +1,6 @@
 use Rattle.std.proofs.Common.{◌∙◌, ap, sym}
 use Rattle.rand_core.specs.Stream.{next_u64}
-use Rattle.tso_ops.proofs.WordFacts.{after_words-none, after_words-more}
+use Rattle.drawn_programs.proofs.WordFacts.{after_words-none, after_words-more}
 use Rattle.tso_report.proofs.campaigns.schedules.skip_words.Goals as goal
 
 pub loop-init : goal.loop-init

@@ -1,5 +1,5 @@
 use Rattle.std.proofs.Common.{◌≡◌}
-use Rattle.tso_ops.specs.Making.{after_words}
+use Rattle.drawn_programs.specs.Making.{after_words}
 use Rattle.tso_report.proofs.campaigns.schedules.skip_words.Given as goal
 
 abbrev pub invariant-loop : goal.invariant-loop

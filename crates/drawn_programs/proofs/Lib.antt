@@ -1,0 +1,2 @@
+pub mod MakingFacts
+pub mod WordFacts

@@ -1,0 +1,2 @@
+-- How far loops have come. No public contract uses these definitions.
+pub mod MadeOps
