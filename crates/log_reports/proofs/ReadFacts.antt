@@ -7,14 +7,14 @@ use Rattle.std.proofs.lemmas.List.{length-take-le, take_all}
 use Rattle.tso_model.specs.Axioms.{IsConsistent}
 use Rattle.tso_ops.specs.Events.{IsUnwritten}
 use Rattle.tso_text.specs.declared.faults.Why.{Why}
-use Rattle.trace_judging.specs.declared.faults.Fault.{Fault}
-use Rattle.trace_reports.specs.Readings.{ReadsAs}
+use Rattle.text_streams.specs.declared.faults.Fault.{Fault}
+use Rattle.text_streams.specs.Readings.{ReadsAs}
 use Rattle.log_text.specs.LogTexts.{IsEndedAsNeeded, IsLogRefusal, SpellsLog}
 use Rattle.log_text.specs.LogValues.{NumberedLog, log_operations}
 use Rattle.log_reports.specs.declared.reports.LogOptions.{LogOptions}
 use Rattle.log_reports.specs.declared.reports.LogReport.{LogReport}
-use Rattle.log_reports.specs.declared.reports.LogVerdict.{LogVerdict}
-use Rattle.log_reports.specs.declared.reports.LogVerdict.TheVariants.{NoViolation, Refused, Violation}
+use Rattle.trace_reports.specs.declared.answers.Answer.{Answer}
+use Rattle.trace_reports.specs.declared.answers.Answer.TheVariants.{Clear, Refused, Violation}
 use Rattle.log_reports.specs.LogRefusals.{log_refusal_text}
 use Rattle.log_reports.specs.LogReports.{IsLogReport, IsLogReportOfReader, IsReportOf}
 use Rattle.log_reports.proofs.ViolationFacts.{report_violation, report_written}
@@ -58,18 +58,18 @@ module _ (options : LogOptions) (remaining : Option (List ℕ)) (text bytes : Li
   log_said log (Err fault) spelled ended is = tt
 
   -- the refusal of a text
-  pub refusal_said : (line : ℕ) (why : Why) (said : List ℕ) (verdict : LogVerdict) → IsLogRefusal options.needs_end text line why → said ≡ log_refusal_text options.form text line why → verdict ≡ Refused → IsLogReportOfReader options remaining said verdict
+  pub refusal_said : (line : ℕ) (why : Why) (said : List ℕ) (verdict : Answer) → IsLogRefusal options.needs_end text line why → said ≡ log_refusal_text options.form text line why → verdict ≡ Refused → IsLogReportOfReader options remaining said verdict
   refusal_said line why said verdict refused says gives =
       of_reader (λ bytes. IsLogReport options bytes said verdict) remaining bytes all (inr (record { line = line; why = why; refused = subst (λ (l : List ℕ). IsLogRefusal options.needs_end l line why) same refused; says = subst (λ (l : List ℕ). said ≡ log_refusal_text options.form l line why) same says; gives = gives }))
 
 -- a log on which the report is a violation has no order
-pub reader_violation : (options : LogOptions) (remaining : Option (List ℕ)) (text : List ℕ) (verdict : LogVerdict) → IsLogReportOfReader options remaining text verdict → verdict ≡ Violation →
+pub reader_violation : (options : LogOptions) (remaining : Option (List ℕ)) (text : List ℕ) (verdict : Answer) → IsLogReportOfReader options remaining text verdict → verdict ≡ Violation →
     IfSome remaining (λ all. (log : NumberedLog) → SpellsLog all log → IsConsistent (log_operations log) → ⊥)
 reader_violation options None text verdict is gives = tt
 reader_violation options (Some all) text verdict is gives = λ log spelled. report_violation options all text (subst (IsLogReport options all text) gives is.of_all) log spelled
 
--- and of one on which it is NoViolation each load read what something wrote
-pub reader_written : (options : LogOptions) (remaining : Option (List ℕ)) (text : List ℕ) (verdict : LogVerdict) → IsLogReportOfReader options remaining text verdict → verdict ≡ NoViolation →
+-- and of one on which it is Clear each load read what something wrote
+pub reader_written : (options : LogOptions) (remaining : Option (List ℕ)) (text : List ℕ) (verdict : Answer) → IsLogReportOfReader options remaining text verdict → verdict ≡ Clear →
     IfSome remaining (λ all. (log : NumberedLog) → SpellsLog all log → (l : ℕ) → IsUnwritten (log_operations log) l → ⊥)
 reader_written options None text verdict is gives = tt
 reader_written options (Some all) text verdict is gives = λ log spelled. report_written options all text (subst (IsLogReport options all text) gives is.of_all) log spelled

@@ -26,7 +26,7 @@ use Rattle.log_reports.specs.declared.findings.LogViolation.{LogViolation}
 use Rattle.log_reports.specs.declared.findings.LogViolation.TheVariants.{Selection, Unwritten}
 use Rattle.log_reports.specs.declared.counts.LogCounts.{LogCounts}
 use Rattle.log_reports.specs.declared.reports.LogOptions.{LogOptions}
-use Rattle.log_reports.specs.declared.reports.LogVerdict.TheVariants.{NoViolation, NotAllJudged, Violation, Refused}
+use Rattle.trace_reports.specs.declared.answers.Answer.TheVariants.{Clear, Undecided, Violation, Refused}
 use Rattle.log_reports.specs.Findings.{AreFindings, AreWrittenIn, IsListed, has_unjudged}
 use Rattle.log_reports.specs.LogCounts.{counts_of, is_nothing_judged, is_too_unknown}
 use Rattle.log_reports.specs.LogReports.{IsLogReport, is_all_judged, verdict_of}
@@ -55,7 +55,7 @@ log_violation log (Selection selected finding) (is, violation, found) = selected
 log_violation log (Unwritten load) is = unwritten_no_order log load.shown.logged is.unwritten
 
 -- where the verdict is Violation, one is listed
-listed : (log : NumberedLog) (violations : List LogViolation) (all_judged : _) → cond (is_empty violations) (cond all_judged NoViolation NotAllJudged) Violation ≡ Violation → All (IsListed log) violations → IsConsistent (log_operations log) → ⊥
+listed : (log : NumberedLog) (violations : List LogViolation) (all_judged : _) → cond (is_empty violations) (cond all_judged Clear Undecided) Violation ≡ Violation → All (IsListed log) violations → IsConsistent (log_operations log) → ⊥
 listed log [] true is all = absurd cc
 listed log [] false is all = absurd cc
 listed log (violation ∷ violations) all_judged is all = log_violation log violation (all 0 violation (omega arith))
@@ -63,8 +63,8 @@ listed log (violation ∷ violations) all_judged is all = log_violation log viol
 pub found_violation : (log : NumberedLog) (options : LogOptions) (counts : LogCounts) (findings : LogFindings) → AreFindings log findings → verdict_of options counts findings ≡ Violation → IsConsistent (log_operations log) → ⊥
 found_violation log options counts findings found is = listed log findings.violations.items (is_all_judged options counts findings) is found.listed
 
--- where the verdict is NoViolation, nothing is listed, and all was judged
-none_listed : (violations : List LogViolation) (all_judged : Bool) → cond (is_empty violations) (cond all_judged NoViolation NotAllJudged) Violation ≡ NoViolation → (violations ≡ []) × (all_judged ≡ true)
+-- where the verdict is Clear, nothing is listed, and all was judged
+none_listed : (violations : List LogViolation) (all_judged : Bool) → cond (is_empty violations) (cond all_judged Clear Undecided) Violation ≡ Clear → (violations ≡ []) × (all_judged ≡ true)
 none_listed [] true is = (refl, refl)
 none_listed [] false is = absurd cc
 none_listed (violation ∷ violations) all_judged is = absurd cc
@@ -76,19 +76,19 @@ all_judged_written true unjudged true nothing many is = absurd cc
 all_judged_written false true true nothing many is = absurd cc
 all_judged_written false false true nothing many is = absurd cc
 
-found_none : (log : NumberedLog) (options : LogOptions) (counts : LogCounts) (findings : LogFindings) → AreWrittenIn log findings → verdict_of options counts findings ≡ NoViolation → (l : ℕ) → IsUnwritten (log_operations log) l → ⊥
+found_none : (log : NumberedLog) (options : LogOptions) (counts : LogCounts) (findings : LogFindings) → AreWrittenIn log findings → verdict_of options counts findings ≡ Clear → (l : ℕ) → IsUnwritten (log_operations log) l → ⊥
 found_none log options counts findings written is =
     let (none, all_judged) = none_listed findings.violations.items (is_all_judged options counts findings) is in
     written none (all_judged_written findings.is_early (not (is_empty findings.unjudged.items)) findings.has_unlisted (is_nothing_judged counts) (is_too_unknown options.max_unknown counts) all_judged)
 
-pub report_written : (options : LogOptions) (bytes text : List ℕ) → IsLogReport options bytes text NoViolation → (log : NumberedLog) → SpellsLog bytes log → (l : ℕ) → IsUnwritten (log_operations log) l → ⊥
+pub report_written : (options : LogOptions) (bytes text : List ℕ) → IsLogReport options bytes text Clear → (log : NumberedLog) → SpellsLog bytes log → (l : ℕ) → IsUnwritten (log_operations log) l → ⊥
 report_written options bytes text is log spelled =
     ⊎_elim
     (λ of_log. subst (λ (other : NumberedLog). (l : ℕ) → IsUnwritten (log_operations other) l → ⊥) (one_log bytes of_log.0 log of_log.1 spelled) (found_none of_log.0 options (counts_of of_log.0 of_log.3.unknown) of_log.3.findings of_log.3.written (sym of_log.3.gives)))
     (λ refusal. absurd (differ refusal.gives))
     is
   where
-    differ : NoViolation ≡ Refused → ⊥
+    differ : Clear ≡ Refused → ⊥
     differ same = cc
 
 pub report_violation : (options : LogOptions) (bytes text : List ℕ) → IsLogReport options bytes text Violation → (log : NumberedLog) → SpellsLog bytes log → IsConsistent (log_operations log) → ⊥

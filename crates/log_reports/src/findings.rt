@@ -1,7 +1,7 @@
 //! The violations of a log.
 ghost use Rattle.std.specs.Prelude.{◌≡◌, ◌≤◌, ◌⊎◌, ◌+◌, Bool, IfErr, IfOk, IfSome, OnOk, cond, false, true};
 ghost use Rattle.std.specs.List.{count_by};
-ghost use Rattle.trace_judging.specs.declared.faults.Fault.{Fault};
+ghost use Rattle.text_streams.specs.declared.faults.Fault.{Fault};
 ghost use Rattle.log_text.specs.LogValues.{NumberedLog};
 ghost use Rattle.log_reports.specs.Findings.{AreFindings, AreWithin, AreWrittenIn, IsListed, has_unjudged, is_selection, is_unwritten};
 ghost use Rattle.log_reports.specs.declared.findings.LogViolation.{LogViolation};
@@ -14,7 +14,9 @@ use progress_meters::Meter;
 use std::alloc::{AllocFailed, Global};
 use std::sync::Wait;
 use std::thread::Threads;
-use trace_judging::{Fault, Finding, find_violation};
+use text_streams::Fault;
+use trace_judging::find_violation;
+use trace_reports::Finding;
 use tso_ops::OutOfMemory;
 
 /// A violation of a log.

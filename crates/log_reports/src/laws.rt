@@ -11,7 +11,7 @@ ghost use Rattle.trace_reports.specs.declared.findings.Finding.{Finding};
 ghost use Rattle.log_reports.specs.declared.findings.LogViolation.{LogViolation};
 ghost use Rattle.log_reports.specs.declared.findings.LogViolation.TheVariants.{Selection};
 ghost use Rattle.log_reports.specs.declared.reports.LogOptions.{LogOptions};
-ghost use Rattle.log_reports.specs.declared.reports.LogVerdict.TheVariants.{Violation};
+ghost use Rattle.trace_reports.specs.declared.answers.Answer.TheVariants.{Violation};
 
 /// A log of which a violation is listed has no order of its memory model, nor have a violation's lines alone.
 pub fn violations()

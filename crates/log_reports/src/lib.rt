@@ -4,16 +4,14 @@
 #![tactic(auto)]
 
 pub use findings::{LogFindings, LogViolation, find_violations};
-pub use meters::LogMeter;
 pub use rendering::LogForm;
-pub use reports::{LogOptions, LogVerdict, report_log};
+pub use reports::{LogOptions, report_log};
 
 mod counts;
 mod findings;
 mod judging;
 pub mod laws;
 mod lines;
-mod meters;
 mod naming;
 mod notes;
 mod refusal_sentences;

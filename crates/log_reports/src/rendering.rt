@@ -14,7 +14,7 @@ use log_selections::{KnownLog, LoggedStore, Selected, Shown, UnwrittenLoad, lone
 use std::alloc::{AllocError, Global};
 use std::fmt::Write;
 use trace_explanation::explain_named;
-use trace_judging::Finding;
+use trace_reports::Finding;
 use tso_ops::{Order, OutOfMemory};
 use tso_text::print_trace;
 

@@ -1,9 +1,9 @@
 //! From the text of a log to its report.
 ghost use Rattle.std.specs.Prelude.{◌≡◌, ◌≢◌, ◌⊎◌, ℕ, List, IfErr, IfOk, IfSome, OnErr, string_bytes};
 ghost use Rattle.std.specs.Io.KnownBytes.{Consumes, Keeps};
-ghost use Rattle.trace_judging.specs.Streams.{AppendsPrefix};
-ghost use Rattle.trace_judging.specs.WrittenReports.{LeavesAtFault, WritesWhole};
-ghost use Rattle.trace_judging.specs.declared.faults.Fault.{Fault};
+ghost use Rattle.text_streams.specs.Streams.{AppendsPrefix};
+ghost use Rattle.text_streams.specs.WrittenTexts.{LeavesAtFault, WritesWhole};
+ghost use Rattle.text_streams.specs.declared.faults.Fault.{Fault};
 ghost use Rattle.tso_model.specs.Axioms.{IsConsistent};
 ghost use Rattle.tso_ops.specs.Events.{IsUnwritten};
 ghost use Rattle.log_text.specs.LogTexts.{SpellsLog};
@@ -14,17 +14,18 @@ ghost use Rattle.log_reports.specs.LogReports.{IsLogReportOfReader, IsReportOf, 
 
 use crate::counts::LogCounts;
 use crate::findings::{LogFindings, find_violations};
-use crate::meters::LogMeter;
 use crate::notes::render_notes;
 use crate::refusals::push_said_of_refusal;
 use crate::rendering::{LogForm, render};
 use log_selections::KnownLog;
 use log_text::{Log, read_log};
+use progress_meters::TotalMeter;
 use std::alloc::Global;
 use std::io::{Read, Write};
 use std::sync::Wait;
 use std::thread::Threads;
-use trace_judging::{Fault, read_all, render_refusal, write_text};
+use text_streams::{Fault, read_all, write_text};
+use trace_reports::{Answer, render_refusal};
 use tso_ops::OutOfMemory;
 use tso_text::TextFault;
 
@@ -42,27 +43,12 @@ pub struct LogOptions {
     /// What is printed.
     pub form: LogForm,
 }
-
-/// What is said of a log.
-#[derive(Clone, Copy, Debug, PartialEq, Eq)]
-pub enum LogVerdict {
-    /// No violation was found, which proves nothing.
-    NoViolation,
-    /// No violation was found, and not all was judged: the search ended before the log did, something that was found is no trace,
-    /// no load could be judged, or more loads are unknown than allowed.
-    NotAllJudged,
-    /// A violation is listed: the log has no memory order.
-    Violation,
-    /// The text is no log's.
-    Refused,
-}
-
 /// What is printed of a log, and notes on what isn't.
 #[derive(Drop)]
 struct LogReport {
     text: String,
     notes: String,
-    verdict: LogVerdict,
+    verdict: Answer,
 }
 
 /// Reports on the log that a reader has: writes its violations, or where the text is no log's the line of its refusal, and with
@@ -74,17 +60,17 @@ struct LogReport {
 /// Faults: OutOfMemory where an allocation was refused; Read where the reader failed, or didn't show its end within 2,097,152
 /// calls of `read`; NoThread where the system refused a thread; Write where the writer failed, took no byte or was interrupted
 /// more than 1,048,576 times.
-pub fn report_log<H: Threads + Wait + AllocGlobal, M: LogMeter, R: Read, W: Write, E: Write>(
+pub fn report_log<H: Threads + Wait + AllocGlobal, M: TotalMeter, R: Read, W: Write, E: Write>(
     rt: &H,
     options: LogOptions,
     meter: &M,
     reader: &mut R,
     writer: &mut W,
     errors: &mut E,
-) -> Result<LogVerdict, Fault>
+) -> Result<Answer, Fault>
     ensures report { IfOk result (WritesWhole (IsLogReportOfReader options (R.remaining reader.old)) (W.contents writer.old) (W.contents writer.new)) }
-    ensures no_order { IfOk result (λ verdict. verdict ≡ LogVerdict.Violation → IfSome (R.remaining reader.old) (λ all. (log : NumberedLog) → SpellsLog all log → IsConsistent (log_operations log) → ⊥)) }
-    ensures written { IfOk result (λ verdict. verdict ≡ LogVerdict.NoViolation → IfSome (R.remaining reader.old) (λ all. (log : NumberedLog) → SpellsLog all log → (l : ℕ) → IsUnwritten (log_operations log) l → ⊥)) }
+    ensures no_order { IfOk result (λ verdict. verdict ≡ Answer.Violation → IfSome (R.remaining reader.old) (λ all. (log : NumberedLog) → SpellsLog all log → IsConsistent (log_operations log) → ⊥)) }
+    ensures written { IfOk result (λ verdict. verdict ≡ Answer.Clear → IfSome (R.remaining reader.old) (λ all. (log : NumberedLog) → SpellsLog all log → (l : ℕ) → IsUnwritten (log_operations log) l → ⊥)) }
     ensures taken { IfOk result (λ _. IfSome (R.remaining reader.old) (λ all. Consumes (R.remaining reader.old) (R.remaining reader.new) all)) }
     ensures left { IfErr result (LeavesAtFault (IsLogReportOfReader options (R.remaining reader.old)) (W.contents writer.old) (W.contents writer.new)) }
     ensures told { (text : List ℕ) × AppendsPrefix (E.contents errors.old) (E.contents errors.new) text }
@@ -98,7 +84,7 @@ pub fn report_log<H: Threads + Wait + AllocGlobal, M: LogMeter, R: Read, W: Writ
 }
 
 /// The report on the log that a reader has.
-fn read_report<H: Threads + Wait + AllocGlobal, M: LogMeter, R: Read>(
+fn read_report<H: Threads + Wait + AllocGlobal, M: TotalMeter, R: Read>(
     rt: &H,
     options: LogOptions,
     meter: &M,
@@ -121,7 +107,7 @@ fn read_report<H: Threads + Wait + AllocGlobal, M: LogMeter, R: Read>(
 }
 
 /// The report on a log.
-fn report_on<H: Threads + Wait + AllocGlobal, M: LogMeter>(
+fn report_on<H: Threads + Wait + AllocGlobal, M: TotalMeter>(
     rt: &H,
     options: LogOptions,
     meter: &M,
@@ -133,7 +119,7 @@ fn report_on<H: Threads + Wait + AllocGlobal, M: LogMeter>(
     let alloc = rt.alloc();
     let known = KnownLog::new(alloc, log)?;
     let counts = LogCounts::new(known.log(), known.ambiguous_loads())?;
-    meter.expect_operations(counts.operations as u64);
+    meter.expect_total(counts.operations as u64);
     let findings = find_violations(rt, alloc, &known, options, meter)?;
     Ok(LogReport {
         text: render(alloc, options, counts, &known, &findings)?,
@@ -147,21 +133,21 @@ fn verdict_of(
     options: LogOptions,
     counts: LogCounts,
     findings: &LogFindings,
-) -> Result<LogVerdict, OutOfMemory>
+) -> Result<Answer, OutOfMemory>
     ensures { IfOk result (λ verdict. verdict ≡ verdict_of options counts findings.now) }
 {
     let is_too_unknown = counts.is_too_unknown(options.max_unknown)?;
     if !findings.violations.is_empty() {
-        return Ok(LogVerdict::Violation);
+        return Ok(Answer::Violation);
     }
     if findings.is_early
         || findings.has_unjudged()
         || counts.is_nothing_judged()
         || is_too_unknown
     {
-        Ok(LogVerdict::NotAllJudged)
+        Ok(Answer::Undecided)
     } else {
-        Ok(LogVerdict::NoViolation)
+        Ok(Answer::Clear)
     }
 }
 
@@ -172,13 +158,13 @@ fn refuse(
     input: &[u8],
     fault: TextFault,
 ) -> Result<LogReport, OutOfMemory>
-    ensures { IfOk result (λ report. (fault.why ≢ Why.OutOfMemory) × (string_bytes report.text ≡ log_refusal_text form input.now fault.line fault.why) × (report.verdict ≡ LogVerdict.Refused)) }
+    ensures { IfOk result (λ report. (fault.why ≢ Why.OutOfMemory) × (string_bytes report.text ≡ log_refusal_text form input.now fault.line fault.why) × (report.verdict ≡ Answer.Refused)) }
 {
     let mut text = render_refusal(alloc, fault)?.text;
     push_said_of_refusal(&mut text, form, input, fault)?;
     Ok(LogReport {
         text,
         notes: String::new(alloc),
-        verdict: LogVerdict::Refused,
+        verdict: Answer::Refused,
     })
 }

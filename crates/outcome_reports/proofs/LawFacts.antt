@@ -11,8 +11,8 @@ use Rattle.tso_ops.specs.Values.{ProgramValue, TraceValue, program_of}
 use Rattle.tso_text.specs.Texts.{SpellsTrace}
 use Rattle.tso_text.specs.Refusals.{IsRefusedTrace}
 use Rattle.tso_text.proofs.TextLaws.{trace_laws}
-use Rattle.trace_batches.specs.declared.tallies.BatchVerdict.{BatchVerdict}
-use Rattle.trace_batches.proofs.PieceFacts.{one_list_of_pieces}
+use Rattle.trace_reports.specs.declared.answers.Answer.{Answer}
+use Rattle.trace_streams.proofs.PieceFacts.{one_list_of_pieces}
 use Rattle.final_states.specs.FinalStates.{AreFinalStatesOf, FinalStateValue, IsFinalState, is_below, numbers_of, values_read}
 use Rattle.outcome_reports.specs.Internal.TraceLists.{StandsIn}
 use Rattle.final_states.specs.FinalStates.{IsRunTrace}
@@ -158,7 +158,7 @@ one_sightings program traces are [] sightings (u ∷ others) first second = absu
 one_sightings program traces are (p ∷ pieces) sightings [] first second = absurd second
 one_sightings program traces are pieces sightings others first second = absurd first
 
-pub one_count : (program : ProgramValue) (stream text other : List ℕ) (verdict said : BatchVerdict) → CountsSeen program stream text verdict → CountsSeen program stream other said → (text ≡ other) × (verdict ≡ said)
+pub one_count : (program : ProgramValue) (stream text other : List ℕ) (verdict said : Answer) → CountsSeen program stream text verdict → CountsSeen program stream other said → (text ≡ other) × (verdict ≡ said)
 one_count program stream text other verdict said first second =
     let traces = one_trace_list program first.traces second.traces first.are_traces second.are_traces in
     let pieces = one_list_of_pieces stream first.pieces second.pieces first.are_pieces second.are_pieces in

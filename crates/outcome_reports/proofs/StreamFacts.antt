@@ -5,11 +5,11 @@ use Rattle.std.specs.Io.KnownBytes.{Consumes}
 use Rattle.std.specs.Global.{Vec}
 use Rattle.std.proofs.lemmas.List.{length-map}
 use Rattle.tso_ops.specs.Values.{ProgramValue, TraceValue, rows}
-use Rattle.trace_judging.specs.Limits.{trace_read_limit}
-use Rattle.trace_judging.proofs.InputFacts.{refusal_of_prefix, spells_of_prefix}
-use Rattle.trace_reports.specs.Readings.{ReadsAs}
-use Rattle.trace_reports.proofs.ReadingFacts.{reads_more}
-use Rattle.trace_batches.specs.PieceReading.{AreFirstBytes, GivesNext, HasGiven, PieceReaderValue, first_bytes}
+use Rattle.trace_streams.specs.Limits.{trace_read_limit}
+use Rattle.trace_streams.proofs.InputFacts.{refusal_of_prefix, spells_of_prefix}
+use Rattle.text_streams.specs.Readings.{ReadsAs}
+use Rattle.text_streams.proofs.ReadingFacts.{reads_more}
+use Rattle.trace_streams.specs.PieceReading.{AreFirstBytes, GivesNext, HasGiven, PieceReaderValue, first_bytes}
 use Rattle.final_states.specs.FinalStates.{values_read}
 use Rattle.outcome_reports.specs.Internal.Counting.{CountsOf, CountsPieces}
 use Rattle.outcome_reports.specs.Internal.Streams.{HasCounted}

@@ -6,10 +6,10 @@ use Rattle.tso_text.specs.Printed.{trace_text}
 use Rattle.tso_text.specs.Refusals.{IsProgramRefusal}
 use Rattle.tso_text.specs.Texts.{SpellsProgram}
 use Rattle.tso_text.specs.declared.faults.Why.{Why}
-use Rattle.trace_reports.specs.Readings.{ReadsAs}
+use Rattle.text_streams.specs.Readings.{ReadsAs}
 use Rattle.trace_reports.specs.RefusalLines.{refusal_text}
-use Rattle.trace_batches.specs.declared.tallies.BatchVerdict.{BatchVerdict}
-use Rattle.trace_batches.specs.declared.tallies.BatchVerdict.TheVariants.{NoViolation, Refused}
+use Rattle.trace_reports.specs.declared.answers.Answer.{Answer}
+use Rattle.trace_reports.specs.declared.answers.Answer.TheVariants.{Clear, Refused}
 use Rattle.final_states.specs.FinalStates.{AreFinalStatesOf, FinalStateValue, IsRunTrace, is_below, values_read}
 use Rattle.final_states.specs.RunStates.{ReachesMore}
 use Rattle.outcome_reports.specs.declared.options.OutcomeForm.{OutcomeForm}
@@ -42,22 +42,22 @@ IsListing Traces program text = (traces : List TraceValue) × AreTracesOf progra
 IsListing States program text = (states : List FinalStateValue) × AreFinalStatesOf program states × (text ≡ states_text states)
 
 -- that line, where runs of the program reach more states than the limit
-pub record IsRefusedByStates (limit : ℕ) (program : ProgramValue) (text : List ℕ) (verdict : BatchVerdict) : Type 0 where
+pub record IsRefusedByStates (limit : ℕ) (program : ProgramValue) (text : List ℕ) (verdict : Answer) : Type 0 where
   pub more : ReachesMore program limit
   pub line : text ≡ states_refusal
   pub refused : verdict ≡ Refused
 
 -- What is said of the program that bytes spell, or the line of their refusal.
-abbrev pub IsSaidOfProgram : (ProgramValue → List ℕ → BatchVerdict → Type 0) → List ℕ → List ℕ → BatchVerdict → Type 0
+abbrev pub IsSaidOfProgram : (ProgramValue → List ℕ → Answer → Type 0) → List ℕ → List ℕ → Answer → Type 0
 IsSaidOfProgram Says bytes text verdict =
     ((program : ProgramValue) × SpellsProgram bytes program × Says program text verdict)
     ⊎ ((line : ℕ) × (why : Why) × IsProgramRefusal bytes line why × (text ≡ refusal_text line why) × (verdict ≡ Refused))
 
 -- the text of the outcomes of a program, or that runs reach too many states
-abbrev pub IsOutcomes : OutcomeOptions → ProgramValue → List ℕ → BatchVerdict → Type 0
+abbrev pub IsOutcomes : OutcomeOptions → ProgramValue → List ℕ → Answer → Type 0
 IsOutcomes options program text verdict =
-    (IsListing options.form program text × (verdict ≡ NoViolation)) ⊎ IsRefusedByStates options.limit program text verdict
+    (IsListing options.form program text × (verdict ≡ Clear)) ⊎ IsRefusedByStates options.limit program text verdict
 
 -- what is printed of the outcomes of the program that a reader has
-abbrev pub IsOutcomesOfReader : OutcomeOptions → Option (List ℕ) → List ℕ → BatchVerdict → Type 0
+abbrev pub IsOutcomesOfReader : OutcomeOptions → Option (List ℕ) → List ℕ → Answer → Type 0
 IsOutcomesOfReader options programs text verdict = ReadsAs programs (λ bytes. IsSaidOfProgram (IsOutcomes options) bytes text verdict)

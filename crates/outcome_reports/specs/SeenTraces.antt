@@ -7,10 +7,10 @@ use Rattle.tso_ops.specs.declared.settings.Order.TheVariants.{Tso, Pso}
 use Rattle.tso_ops.specs.Values.{ProgramValue, TraceValue, program_of}
 use Rattle.tso_text.specs.Refusals.{IsRefusedTrace}
 use Rattle.tso_text.specs.Texts.{SpellsTrace}
-use Rattle.trace_batches.specs.Pieces.{ArePieces}
-use Rattle.trace_batches.specs.declared.tallies.BatchVerdict.{BatchVerdict}
-use Rattle.trace_batches.specs.declared.tallies.BatchVerdict.TheVariants.{NoViolation, Refused, Undecided, Violation}
-use Rattle.trace_reports.specs.Readings.{ReadsAs}
+use Rattle.trace_streams.specs.Pieces.{ArePieces}
+use Rattle.trace_reports.specs.declared.answers.Answer.{Answer}
+use Rattle.trace_reports.specs.declared.answers.Answer.TheVariants.{Clear, Refused, Undecided, Violation}
+use Rattle.text_streams.specs.Readings.{ReadsAs}
 use Rattle.final_states.specs.FinalStates.{IsRunTrace}
 use Rattle.outcome_reports.specs.Outcomes.{AreTracesOf, IsRefusedByStates, IsSaidOfProgram}
 use Rattle.outcome_reports.specs.StateLines.{trace_line}
@@ -65,7 +65,7 @@ unreached_word Tso = codes "Violations "
 unreached_word Pso = codes "Undecided "
 
 -- the verdict of as many traces that no complete run leaves
-abbrev pub unreached_verdict : Order → BatchVerdict
+abbrev pub unreached_verdict : Order → Answer
 unreached_verdict Tso = Violation
 unreached_verdict Pso = Undecided
 
@@ -76,14 +76,14 @@ seen_text order traces sightings =
     ++ 10 ∷ codes "Refused " ++ decimal (count_by is_foreign sightings) ++ 10 ∷ []
 
 -- Violation before Refused before Undecided
-abbrev pub seen_verdict : Order → List Sighting → BatchVerdict
+abbrev pub seen_verdict : Order → List Sighting → Answer
 seen_verdict Tso sightings =
-    if nat_lt 0 (count_by is_unreached sightings) then Violation else if nat_lt 0 (count_by is_foreign sightings) then Refused else NoViolation
+    if nat_lt 0 (count_by is_unreached sightings) then Violation else if nat_lt 0 (count_by is_foreign sightings) then Refused else Clear
 seen_verdict Pso sightings =
-    if nat_lt 0 (count_by is_foreign sightings) then Refused else if nat_lt 0 (count_by is_unreached sightings) then Undecided else NoViolation
+    if nat_lt 0 (count_by is_foreign sightings) then Refused else if nat_lt 0 (count_by is_unreached sightings) then Undecided else Clear
 
 -- The text and the verdict are of the traces of the program's runs in the pieces of the stream.
-pub record CountsSeen (program : ProgramValue) (stream text : List ℕ) (verdict : BatchVerdict) : Type 0 where
+pub record CountsSeen (program : ProgramValue) (stream text : List ℕ) (verdict : Answer) : Type 0 where
   pub traces : List TraceValue
   pub are_traces : AreTracesOf program traces
   pub pieces : List (List ℕ)
@@ -94,9 +94,9 @@ pub record CountsSeen (program : ProgramValue) (stream text : List ℕ) (verdict
   pub says : verdict ≡ seen_verdict program.setting.order sightings
 
 -- what is printed of a program and the stream that a reader has, or that runs reach too many states
-abbrev pub IsSeenOf : ℕ → Option (List ℕ) → ProgramValue → List ℕ → BatchVerdict → Type 0
+abbrev pub IsSeenOf : ℕ → Option (List ℕ) → ProgramValue → List ℕ → Answer → Type 0
 IsSeenOf limit streams program text verdict = ReadsAs streams (λ stream. CountsSeen program stream text verdict) ⊎ IsRefusedByStates limit program text verdict
 
 -- what is printed of what two readers have, a program and a stream
-abbrev pub IsSeenOfReaders : ℕ → Option (List ℕ) → Option (List ℕ) → List ℕ → BatchVerdict → Type 0
+abbrev pub IsSeenOfReaders : ℕ → Option (List ℕ) → Option (List ℕ) → List ℕ → Answer → Type 0
 IsSeenOfReaders limit programs streams text verdict = ReadsAs programs (λ bytes. IsSaidOfProgram (IsSeenOf limit streams) bytes text verdict)

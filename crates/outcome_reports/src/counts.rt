@@ -1,7 +1,7 @@
 //! How often traces were seen.
 ghost use Rattle.std.specs.Prelude.{◌≡◌, ◌∷◌, ◌++◌, [], ℕ, List, ◌+◌, length, nat_lt, string_bytes, OnOk, IfOk, IfErr};
 ghost use Rattle.std.specs.List.{count_by};
-ghost use Rattle.trace_judging.specs.declared.faults.Fault.{Fault};
+ghost use Rattle.text_streams.specs.declared.faults.Fault.{Fault};
 ghost use Rattle.tso_ops.specs.declared.settings.Order.{Order};
 ghost use Rattle.tso_ops.specs.Settings.{SettingValue};
 ghost use Rattle.outcome_reports.specs.Internal.Counting.{CountsOf, IsWithin, traces_by};
@@ -12,8 +12,8 @@ use crate::lines::print_reads;
 use crate::sightings::Sighting;
 use std::alloc::{AllocError, Global};
 use std::fmt::Write;
-use trace_batches::BatchVerdict;
-use trace_judging::Fault;
+use text_streams::Fault;
+use trace_reports::Answer;
 use tso_ops::{Order, Outcome};
 
 /// How often each of some traces was seen, how many traces of the program were seen that no complete run leaves, and how many
@@ -69,14 +69,14 @@ impl SeenCounts {
     }
 
     /// The verdict that they give.
-    pub(crate) fn verdict(&self, order: Order) -> BatchVerdict
+    pub(crate) fn verdict(&self, order: Order) -> Answer
         ensures { (count : ℕ) (sightings : List Sighting) → CountsOf count sightings self.now → result ≡ seen_verdict order sightings }
     {
         match order {
-            Order::Tso if self.unreached > 0 => BatchVerdict::Violation,
-            _ if self.foreign > 0 => BatchVerdict::Refused,
-            Order::Pso if self.unreached > 0 => BatchVerdict::Undecided,
-            _ => BatchVerdict::NoViolation,
+            Order::Tso if self.unreached > 0 => Answer::Violation,
+            _ if self.foreign > 0 => Answer::Refused,
+            Order::Pso if self.unreached > 0 => Answer::Undecided,
+            _ => Answer::Clear,
         }
     }
 

@@ -2,7 +2,7 @@
 ghost use Rattle.std.specs.Prelude.{◌≡◌, ◌+◌, ℕ, List, length};
 ghost use Rattle.std.specs.List.{count_by};
 ghost use Rattle.tso_ops.specs.Values.{ProgramValue, TraceValue};
-ghost use Rattle.trace_batches.specs.declared.tallies.BatchVerdict.{BatchVerdict};
+ghost use Rattle.trace_reports.specs.declared.answers.Answer.{Answer};
 ghost use Rattle.outcome_reports.specs.Outcomes.{AreTracesOf, IsListing};
 ghost use Rattle.outcome_reports.specs.SeenTraces.{AreSightings, CountsSeen, IsSighting, is_foreign, is_unreached, seen_total};
 ghost use Rattle.outcome_reports.specs.declared.options.OutcomeForm.{OutcomeForm};
@@ -19,5 +19,5 @@ pub fn listings()
 pub fn seen_traces()
     ensures one { (program : ProgramValue) (traces : List TraceValue) (piece : List ℕ) (sighting other : Sighting) → AreTracesOf program traces → IsSighting program traces piece sighting → IsSighting program traces piece other → sighting ≡ other }
     ensures each { (program : ProgramValue) (traces : List TraceValue) (pieces : List (List ℕ)) (sightings : List Sighting) → AreSightings program traces pieces sightings → seen_total sightings 0 (length traces) + count_by is_unreached sightings + count_by is_foreign sightings ≡ length pieces }
-    ensures text { (program : ProgramValue) (stream text other : List ℕ) (verdict said : BatchVerdict) → CountsSeen program stream text verdict → CountsSeen program stream other said → (text ≡ other) × (verdict ≡ said) }
+    ensures text { (program : ProgramValue) (stream text other : List ℕ) (verdict said : Answer) → CountsSeen program stream text verdict → CountsSeen program stream other said → (text ≡ other) × (verdict ≡ said) }
 {}

@@ -2,12 +2,12 @@
 ghost use Rattle.std.specs.Prelude.{◌≡◌, ◌≢◌, ◌⊎◌, All, map, string_bytes, IfOk, IfErr};
 ghost use Rattle.tso_ops.specs.Limits.{IsTrace};
 ghost use Rattle.tso_text.specs.declared.faults.Why.{Why};
-ghost use Rattle.trace_judging.specs.declared.faults.Fault.{Fault};
-ghost use Rattle.trace_judging.specs.Limits.{trace_read_limit};
-ghost use Rattle.trace_judging.specs.Streams.{LosesPrefix};
-ghost use Rattle.trace_judging.specs.WrittenReports.{LeavesAtFault, WritesWhole};
+ghost use Rattle.text_streams.specs.declared.faults.Fault.{Fault};
+ghost use Rattle.trace_streams.specs.Limits.{trace_read_limit};
+ghost use Rattle.text_streams.specs.Streams.{LosesPrefix};
+ghost use Rattle.text_streams.specs.WrittenTexts.{LeavesAtFault, WritesWhole};
 ghost use Rattle.trace_reports.specs.RefusalLines.{refusal_text};
-ghost use Rattle.trace_batches.specs.declared.tallies.BatchVerdict.{BatchVerdict};
+ghost use Rattle.trace_reports.specs.declared.answers.Answer.{Answer};
 ghost use Rattle.final_states.specs.FinalStates.{AreFinalStatesOf, state_of};
 ghost use Rattle.outcome_reports.specs.Outcomes.{IsListing, IsOutcomes, IsOutcomesOfReader, states_refusal};
 
@@ -17,8 +17,8 @@ use crate::options::{OutcomeForm, OutcomeOptions};
 use final_states::{FinalState, StatesFault, final_states};
 use std::alloc::Global;
 use std::io::{Read, Write};
-use trace_batches::BatchVerdict;
-use trace_judging::{Fault, read_all, render_refusal, write_text};
+use text_streams::{Fault, read_all, write_text};
+use trace_reports::{Answer, render_refusal};
 use tso_ops::{OutOfMemory, Program};
 use tso_text::{MAX_TEXT_BYTES, TextFault, read_program};
 
@@ -26,14 +26,14 @@ use tso_text::{MAX_TEXT_BYTES, TextFault, read_program};
 #[derive(Drop)]
 pub(crate) struct OutcomeText {
     pub(crate) text: String,
-    pub(crate) verdict: BatchVerdict,
+    pub(crate) verdict: Answer,
 }
 
 /// Writes the outcomes of the program whose text a reader has: the traces that its complete runs leave, each once, or the
 /// line of each of its final states, after how many there are. Both are in ascending order of the values that were read, and
 /// final states then of the last values.
 ///
-/// The verdict is NoViolation, or Refused where the text is no program, or runs of it reach more states than the limit: then
+/// The verdict is Clear, or Refused where the text is no program, or runs of it reach more states than the limit: then
 /// the line of the refusal is written. At most 1,048,577 bytes are read. Faults: OutOfMemory where an allocation was refused;
 /// Read where the reader failed or passed 2,097,152 calls; with both nothing was written. Write where the writer failed, took
 /// no byte or was interrupted more than 1,048,576 times: then what was written is a prefix of the text.
@@ -42,7 +42,7 @@ pub fn list_outcomes<P: Read, W: Write>(
     programs: &mut P,
     writer: &mut W,
     options: OutcomeOptions,
-) -> Result<BatchVerdict, Fault>
+) -> Result<Answer, Fault>
     ensures whole { IfOk result (WritesWhole (IsOutcomesOfReader options (P.remaining programs.old)) (W.contents writer.old) (W.contents writer.new)) }
     ensures fault { IfErr result (LeavesAtFault (IsOutcomesOfReader options (P.remaining programs.old)) (W.contents writer.old) (W.contents writer.new)) }
     ensures no_thread { IfErr result (λ fault. fault ≢ Fault.NoThread) }
@@ -74,12 +74,12 @@ fn read_outcomes<P: Read>(
 pub(crate) fn refused_program(alloc: Global, fault: TextFault) -> Result<OutcomeText, OutOfMemory>
     ensures why { IfOk result (λ _. fault.why ≢ Why.OutOfMemory) }
     ensures line { IfOk result (λ said. string_bytes said.text ≡ refusal_text fault.line fault.why) }
-    ensures refused { IfOk result (λ said. said.verdict ≡ BatchVerdict.Refused) }
+    ensures refused { IfOk result (λ said. said.verdict ≡ Answer.Refused) }
 {
     let report = render_refusal(alloc, fault)?;
     Ok(OutcomeText {
         text: report.text,
-        verdict: BatchVerdict::Refused,
+        verdict: Answer::Refused,
     })
 }
 
@@ -94,7 +94,7 @@ fn outcomes_of(
     match final_states(alloc, program, options.limit) {
         Ok(states) => Ok(OutcomeText {
             text: print_outcomes(alloc, program, &states, options.form)?,
-            verdict: BatchVerdict::NoViolation,
+            verdict: Answer::Clear,
         }),
         Err(StatesFault::TooManyStates) => refused_states(alloc),
         Err(StatesFault::OutOfMemory) => Err(OutOfMemory),
@@ -104,11 +104,11 @@ fn outcomes_of(
 /// The line of a program whose runs reach more states than the limit.
 pub(crate) fn refused_states(alloc: Global) -> Result<OutcomeText, OutOfMemory>
     ensures line { IfOk result (λ said. string_bytes said.text ≡ states_refusal) }
-    ensures refused { IfOk result (λ said. said.verdict ≡ BatchVerdict.Refused) }
+    ensures refused { IfOk result (λ said. said.verdict ≡ Answer.Refused) }
 {
     Ok(OutcomeText {
         text: String::from_str(alloc, "REFUSED States\n")?,
-        verdict: BatchVerdict::Refused,
+        verdict: Answer::Refused,
     })
 }
 

@@ -3,11 +3,11 @@ ghost use Rattle.std.specs.Prelude.{◌≡◌, ◌≢◌, ◌⊎◌, List, map, 
 ghost use Rattle.std.specs.Io.KnownBytes.{Consumes};
 ghost use Rattle.tso_ops.specs.Values.{TraceValue, rows};
 ghost use Rattle.tso_text.specs.Refusals.{IsRefusedProgram};
-ghost use Rattle.trace_judging.specs.declared.faults.Fault.{Fault};
-ghost use Rattle.trace_judging.specs.Limits.{trace_read_limit};
-ghost use Rattle.trace_judging.specs.Streams.{LosesPrefix};
-ghost use Rattle.trace_judging.specs.WrittenReports.{LeavesAtFault, WritesWhole};
-ghost use Rattle.trace_reports.specs.Readings.{ReadsAs};
+ghost use Rattle.text_streams.specs.declared.faults.Fault.{Fault};
+ghost use Rattle.trace_streams.specs.Limits.{trace_read_limit};
+ghost use Rattle.text_streams.specs.Streams.{LosesPrefix};
+ghost use Rattle.text_streams.specs.WrittenTexts.{LeavesAtFault, WritesWhole};
+ghost use Rattle.text_streams.specs.Readings.{ReadsAs};
 ghost use Rattle.final_states.specs.FinalStates.{values_read};
 ghost use Rattle.outcome_reports.specs.Internal.Counting.{CountsOf, CountsPieces, traces_by};
 ghost use Rattle.outcome_reports.specs.Outcomes.{AreTracesOf};
@@ -22,8 +22,9 @@ use crate::values::values_of_each;
 use final_states::{StatesFault, final_states};
 use std::alloc::Global;
 use std::io::{Read, Write};
-use trace_batches::{BatchVerdict, PieceReader};
-use trace_judging::{Fault, read_all, write_text};
+use text_streams::{Fault, read_all, write_text};
+use trace_reports::Answer;
+use trace_streams::PieceReader;
 use tso_ops::{OutOfMemory, Outcome, Program};
 use tso_text::{MAX_TEXT_BYTES, read_program};
 
@@ -33,7 +34,7 @@ use tso_text::{MAX_TEXT_BYTES, read_program};
 ///
 /// Another trace of the program is a violation under TSO, where no memory order meets the axioms, and undecided under PSO. The
 /// verdict is Violation where there is one, else Refused where a piece is no trace of the program, else Undecided where one is
-/// undecided, else NoViolation. A text that is no program, or one whose runs reach more states than the limit, is refused by its
+/// undecided, else Clear. A text that is no program, or one whose runs reach more states than the limit, is refused by its
 /// line: the stream isn't read then, and else all of it is. Pieces are those of `judge_batch`, and nothing of a piece is kept. At most 1,048,577 bytes
 /// of the program are read. Faults: OutOfMemory where an allocation was refused; Read where a reader failed, passed 2,097,152
 /// calls for the program or 2^64 - 1 for a piece, or has 2^64 pieces; with both nothing was written. Write where the writer
@@ -44,7 +45,7 @@ pub fn count_seen<P: Read, S: Read, W: Write>(
     stream: &mut S,
     writer: &mut W,
     limit: u64,
-) -> Result<BatchVerdict, Fault>
+) -> Result<Answer, Fault>
     ensures whole { IfOk result (WritesWhole (IsSeenOfReaders limit (P.remaining programs.old) (S.remaining stream.old)) (W.contents writer.old) (W.contents writer.new)) }
     ensures fault { IfErr result (LeavesAtFault (IsSeenOfReaders limit (P.remaining programs.old) (S.remaining stream.old)) (W.contents writer.old) (W.contents writer.new)) }
     ensures no_thread { IfErr result (λ fault. fault ≢ Fault.NoThread) }

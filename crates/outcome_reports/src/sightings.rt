@@ -1,7 +1,7 @@
 //! What a piece of a stream is to the traces of a program's runs.
 ghost use Rattle.std.specs.Prelude.{◌≡◌, ◌<◌, List, map, length, Decides, IfSome, IfOk, IfErr};
 ghost use Rattle.tso_ops.specs.Values.{TraceValue, op_of, program_of, rows};
-ghost use Rattle.trace_judging.specs.declared.faults.Fault.{Fault};
+ghost use Rattle.text_streams.specs.declared.faults.Fault.{Fault};
 ghost use Rattle.final_states.specs.FinalStates.{values_read};
 ghost use Rattle.outcome_reports.specs.Internal.Counting.{IsPlaceOf, IsSightingOf, IsWithin};
 ghost use Rattle.outcome_reports.specs.Outcomes.{AreTracesOf};
@@ -10,7 +10,7 @@ ghost use Rattle.outcome_reports.specs.SeenTraces.{IsSighting};
 use crate::places::place_of;
 use crate::values::values_of;
 use std::alloc::Global;
-use trace_judging::Fault;
+use text_streams::Fault;
 use tso_ops::{Op, OutOfMemory, Outcome, Program, Trace};
 use tso_text::{Why, read_trace};
 

@@ -13,15 +13,16 @@ use Rattle.std.proofs.lemmas.List.Sums.{sum_by-append, sum_by-cons}
 use Rattle.trace_batches.specs.declared.batches.BatchPrinting.{BatchPrinting}
 use Rattle.trace_batches.specs.declared.begun.Batch.{Batch}
 use Rattle.trace_batches.specs.Batches.{AreResults, AreResultsOf, asked, BatchText, HasJudged, HasWritten, IsBatchFault, Judges, LeavesBatch, LeavesText, TextResults, WritesBatch, head_text, read_text, unread_text}
-use Rattle.trace_judging.specs.Streams.{AppendsPrefix}
+use Rattle.text_streams.specs.Streams.{AppendsPrefix}
 use Rattle.trace_batches.proofs.WholeFacts.{begun, head_left, judged_left, judged_more}
-use Rattle.trace_judging.specs.declared.faults.Fault.{Fault}
-use Rattle.trace_batches.specs.declared.tallies.BatchVerdict.{BatchVerdict}
-use Rattle.request_serving.specs.Batches.{AreNamedTexts, AreTextsOfBatch, IsNamedText, are_several, status_of_batch, told_name}
+use Rattle.text_streams.specs.declared.faults.Fault.{Fault}
+use Rattle.trace_reports.specs.declared.answers.Answer.{Answer}
+use Rattle.request_serving.specs.Batches.{AreNamedTexts, AreTextsOfBatch, IsNamedText, are_several, told_name}
+use Rattle.trace_reports.specs.Statuses.{status_of_answer}
 use Rattle.request_serving.specs.Endings.{EndsBatched, Outputs, WritesFaultLine}
 use Rattle.request_serving.specs.Internal.Batching.{files_in}
-use Rattle.request_serving.specs.OpenedFiles.{HasKnown, OpensFirst, OpensNext}
-use Rattle.request_serving.proofs.EndFacts.{known_reads}
+use Rattle.request_texts.specs.OpenedFiles.{HasKnown, OpensFirst, OpensNext}
+use Rattle.request_texts.proofs.KnownFacts.{known_reads}
 
 -- ---- texts of files of which less may be known
 
@@ -315,14 +316,14 @@ pub done_of : {T E : Type 0} {Is Then : T → Type 0} (outcome : Result T E) →
 done_of (Ok x) more is = more x is
 done_of (Err e) more is = tt
 
-noted_kept : (printing : BatchPrinting) (texts : List BatchText) (old new before noted errors : Option (List ℕ)) (verdict : BatchVerdict) → WritesBatch printing texts old new before noted verdict →
+noted_kept : (printing : BatchPrinting) (texts : List BatchText) (old new before noted errors : Option (List ℕ)) (verdict : Answer) → WritesBatch printing texts old new before noted verdict →
     Keeps noted errors → WritesBatch printing texts old new before errors verdict
 noted_kept printing texts old new before noted errors verdict writes kept = (writes.0, writes.1, writes.2, writes.3, Appends-kept before noted errors writes.1 writes.4 kept)
 
-pub ends_batched : (printing : BatchPrinting) (are_texts : List BatchText → Type 0) (noted : Option (List ℕ)) (o : Outputs) (outcome : Result BatchVerdict Fault) (status : ℕ)
+pub ends_batched : (printing : BatchPrinting) (are_texts : List BatchText → Type 0) (noted : Option (List ℕ)) (o : Outputs) (outcome : Result Answer Fault) (status : ℕ)
     → IfOk outcome (λ verdict. (texts : List BatchText) × are_texts texts × WritesBatch printing texts o.written_before o.written o.errors_before noted verdict)
     → OnErr outcome ((texts : List BatchText) × are_texts texts × LeavesBatch printing texts o.written_before o.written o.errors_before noted)
-    → IfErr outcome IsBatchFault → IfOk outcome (λ verdict. (status ≡ status_of_batch verdict) × Keeps noted o.errors) → IfErr outcome (λ fault. WritesFaultLine noted o.errors fault × (status ≡ 4))
+    → IfErr outcome IsBatchFault → IfOk outcome (λ verdict. (status ≡ status_of_answer verdict) × Keeps noted o.errors) → IfErr outcome (λ fault. WritesFaultLine noted o.errors fault × (status ≡ 4))
     → EndsBatched printing are_texts o status
 ends_batched printing are_texts noted o (Ok verdict) status writes left fault done faulty =
     inl (verdict, (writes.0, writes.1, noted_kept printing writes.0 o.written_before o.written o.errors_before noted o.errors verdict writes.2 done.1), done.0)

@@ -3,24 +3,25 @@ use Rattle.std.proofs.Common.{◌≡◌, ℕ, List, take, None, Some, Result, If
 use Rattle.std.specs.Prelude.{Option}
 use Rattle.std.specs.Io.KnownBytes.{Appends}
 use Rattle.command_line.specs.declared.options.Presentation.{Presentation}
-use Rattle.trace_batches.specs.NthPieces.{IsKeptOfNth}
-use Rattle.trace_decisions.specs.declared.answers.Answer.{Answer}
-use Rattle.trace_decisions.specs.declared.answers.Answer.TheVariants.{Refused}
+use Rattle.trace_streams.specs.NthPieces.{IsKeptOfNth}
+use Rattle.trace_reports.specs.declared.answers.Answer.{Answer}
+use Rattle.trace_reports.specs.declared.answers.Answer.TheVariants.{Refused}
 use Rattle.trace_decisions.specs.DecisionTexts.{IsDecisionOf, IsDecisionOfReader}
 use Rattle.trace_decisions.proofs.DecisionFacts.{decision_of_prefix}
 use Rattle.trace_decisions.specs.EvidenceReports.{IsVerification, IsVerificationOfReaders}
-use Rattle.trace_judging.specs.declared.faults.Fault.{Fault}
-use Rattle.trace_judging.specs.declared.faults.Fault.TheVariants.{Write}
-use Rattle.trace_judging.specs.Limits.{trace_read_limit}
-use Rattle.trace_judging.specs.Streams.{AppendsPrefix}
-use Rattle.trace_judging.specs.WrittenReports.{LeavesAtFault, WritesWhole}
-use Rattle.trace_judging.proofs.InputFacts.{refusal_of_prefix, spells_of_prefix}
-use Rattle.trace_reports.specs.Readings.{ReadsAs}
-use Rattle.trace_reports.proofs.ReadingFacts.{reads_more}
+use Rattle.text_streams.specs.declared.faults.Fault.{Fault}
+use Rattle.text_streams.specs.declared.faults.Fault.TheVariants.{Write}
+use Rattle.trace_streams.specs.Limits.{trace_read_limit}
+use Rattle.text_streams.specs.Streams.{AppendsPrefix}
+use Rattle.text_streams.specs.WrittenTexts.{LeavesAtFault, WritesWhole}
+use Rattle.trace_streams.proofs.InputFacts.{refusal_of_prefix, spells_of_prefix}
+use Rattle.text_streams.specs.Readings.{ReadsAs}
+use Rattle.text_streams.proofs.ReadingFacts.{reads_more}
 use Rattle.request_serving.specs.Deciding.{IsDecided, IsVerificationOfNth, IsVerifiedBy}
-use Rattle.request_serving.specs.NthTraces.{IsSaidOfNth, nth_refusal}
-use Rattle.request_serving.specs.OpenedFiles.{HasKnown}
-use Rattle.request_serving.proofs.EndFacts.{faults_as, known_reads, said_as_well, writes_as}
+use Rattle.request_texts.specs.NthTraces.{IsSaidOfNth, nth_refusal}
+use Rattle.request_texts.specs.OpenedFiles.{HasKnown}
+use Rattle.text_streams.proofs.StreamFacts.{faults_as, writes_as}
+use Rattle.request_texts.proofs.KnownFacts.{known_reads, said_as_well}
 use Rattle.request_serving.specs.Presentations.{decided_as, refused_as}
 use Rattle.request_serving.proofs.NthFacts.{fewer_left, fewer_written, said_of_kept, shows_no_whole}
 

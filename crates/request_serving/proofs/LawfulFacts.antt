@@ -11,23 +11,23 @@ use Rattle.command_line.specs.declared.options.UnitKind.{UnitKind}
 use Rattle.command_line.specs.declared.options.UnitKind.TheVariants.{Serial, Buffer}
 use Rattle.command_line.specs.declared.options.UnitOptions.{UnitOptions}
 use Rattle.tso_report.specs.Campaigns.{is_lawful_under}
-use Rattle.trace_reports.specs.Readings.{ReadsAs}
-use Rattle.trace_judging.specs.WrittenReports.{LeavesAtFault}
-use Rattle.trace_judging.specs.declared.faults.Fault.{Fault}
+use Rattle.text_streams.specs.Readings.{ReadsAs}
+use Rattle.text_streams.specs.WrittenTexts.{LeavesAtFault}
+use Rattle.text_streams.specs.declared.faults.Fault.{Fault}
 use Rattle.tso_text.specs.declared.faults.Why.{Why}
 use Rattle.tso_text.specs.Texts.{SpellsProgram, SpellsSchedule}
 use Rattle.tso_text.specs.Refusals.{IsProgramRefusal, IsScheduleRefusal}
 use Rattle.tso_text.proofs.TextLaws.{program_laws}
 use Rattle.unit_core.specs.declared.accounts.Account.{Account}
 use Rattle.unit_core.specs.Records.{RecordedValue, is_within}
-use Rattle.request_serving.specs.BenchUnits.{is_lawful_kind, is_lawful_under_all, order_of_kind}
+use Rattle.run_serving.specs.BenchUnits.{is_lawful_kind, is_lawful_under_all, order_of_kind}
 use Rattle.request_serving.specs.Endings.{EndsAsAsked, EndsByText, EndsRun, EndsRunTimes, Outputs}
 use Rattle.request_serving.specs.LawfulRequests.{RunsLawfully, SpellsForLawfulUnit, runs_on_lawful_unit}
-use Rattle.request_serving.specs.OpenedFiles.{text_bytes}
-use Rattle.request_serving.specs.Printing.{IsPrintedOf, Presents, unit_of}
-use Rattle.request_serving.specs.Replaying.{IsReplayOf, IsReplayText, IsScheduledText}
-use Rattle.request_serving.specs.Running.{AreRunTraces, IsRunPrinted, IsRunText, IsRunTimesText, LeavesRunTimes}
-use Rattle.request_serving.specs.Statuses.{status_of}
+use Rattle.request_texts.specs.OpenedFiles.{text_bytes}
+use Rattle.run_serving.specs.Printing.{IsPrintedOf, Presents, unit_of}
+use Rattle.run_serving.specs.Replaying.{IsReplayOf, IsReplayText, IsScheduledText}
+use Rattle.run_serving.specs.Running.{AreRunTraces, IsRunPrinted, IsRunText, IsRunTimesText, LeavesRunTimes}
+use Rattle.trace_reports.specs.Statuses.{status_of}
 
 -- a unit that is lawful for programs of each memory model is lawful for those of this one
 kind_lawful : (kind : UnitKind) (order : Order) → is_lawful_under_all kind ≡ true → (is_lawful_kind kind && is_within (order_of_kind kind) order) ≡ true

@@ -1,5 +1,4 @@
 pub mod BatchingFacts
-pub mod CampaigningFacts
 pub mod DecidingFacts
 pub mod EndFacts
 pub mod LawfulFacts
@@ -8,6 +7,4 @@ pub mod NthFacts
 pub mod OutcomeFacts
 pub mod PartedLines
 pub mod ReducingFacts
-pub mod RepeatingFacts
-pub mod ReplayingFacts
-pub mod RunningFacts
+pub mod RunEnds

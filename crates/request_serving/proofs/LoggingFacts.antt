@@ -5,18 +5,18 @@ use Rattle.std.specs.Fmt.{decimal}
 use Rattle.std.specs.Io.KnownBytes.{Appends, Keeps}
 use Rattle.std.proofs.KnownBytes.{Appends-kept}
 use Rattle.log_reports.specs.declared.reports.LogOptions.{LogOptions}
-use Rattle.log_reports.specs.declared.reports.LogVerdict.{LogVerdict}
+use Rattle.trace_reports.specs.declared.answers.Answer.{Answer}
 use Rattle.log_reports.specs.LogReports.{IsLogReport, IsLogReportOfReader}
-use Rattle.trace_judging.specs.Streams.{AppendsPrefix}
-use Rattle.trace_judging.specs.WrittenReports.{LeavesAtFault, WritesWhole}
-use Rattle.trace_judging.specs.declared.faults.Fault.{Fault}
-use Rattle.trace_judging.specs.declared.faults.Fault.TheVariants.{OutOfMemory, Read, Write, NoThread, Missing}
+use Rattle.text_streams.specs.Streams.{AppendsPrefix}
+use Rattle.text_streams.specs.WrittenTexts.{LeavesAtFault, WritesWhole}
+use Rattle.text_streams.specs.declared.faults.Fault.{Fault}
+use Rattle.text_streams.specs.declared.faults.Fault.TheVariants.{OutOfMemory, Read, Write, NoThread, Missing}
 use Rattle.request_serving.specs.Endings.{EndsWithNotes, Outputs, WritesFaultLine, fault_line}
-use Rattle.request_serving.specs.OpenedFiles.{HasKnown}
-use Rattle.request_serving.proofs.EndFacts.{known_reads}
+use Rattle.request_texts.specs.OpenedFiles.{HasKnown}
+use Rattle.request_texts.proofs.KnownFacts.{known_reads}
 
 -- the report of a file of which less may be known, as it was asked for
-pub logged_of_known : (asked options : LogOptions) (known remaining : Option (List ℕ)) → options ≡ asked → HasKnown known remaining → (text : List ℕ) (verdict : LogVerdict) → IsLogReportOfReader options remaining text verdict →
+pub logged_of_known : (asked options : LogOptions) (known remaining : Option (List ℕ)) → options ≡ asked → HasKnown known remaining → (text : List ℕ) (verdict : Answer) → IsLogReportOfReader options remaining text verdict →
     IsLogReportOfReader asked known text verdict
 logged_of_known asked options known remaining is has text verdict report =
     subst (λ f. IsLogReportOfReader f known text verdict) is (known_reads known remaining has (λ bytes. IsLogReport options bytes text verdict) report)

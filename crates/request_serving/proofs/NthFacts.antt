@@ -5,28 +5,29 @@ use Rattle.std.specs.Global.{Vec}
 use Rattle.std.specs.Io.KnownBytes.{Appends}
 use Rattle.command_line.specs.declared.options.Presentation.{Presentation}
 use Rattle.command_line.specs.declared.options.Presentation.TheVariants.{Report, Explanation, Picture, FieldPicture}
-use Rattle.trace_batches.specs.NthPieces.{IsKeptOfNth, IsNthPiece}
-use Rattle.trace_batches.proofs.PieceFacts.{one_list_of_pieces}
+use Rattle.trace_streams.specs.NthPieces.{IsKeptOfNth, IsNthPiece}
+use Rattle.trace_streams.proofs.PieceFacts.{one_list_of_pieces}
 use Rattle.trace_explanation.specs.Explained.{whole_explained}
-use Rattle.trace_judging.specs.declared.faults.Fault.{Fault}
-use Rattle.trace_judging.specs.declared.faults.Fault.TheVariants.{Write}
+use Rattle.text_streams.specs.declared.faults.Fault.{Fault}
+use Rattle.text_streams.specs.declared.faults.Fault.TheVariants.{Write}
 use Rattle.trace_judging.specs.Checks.{IsCheckReport}
-use Rattle.trace_judging.specs.Limits.{trace_read_limit}
-use Rattle.trace_judging.specs.Streams.{AppendsPrefix}
-use Rattle.trace_judging.specs.WrittenReports.{IsCheckReportOfReaders, LeavesAtFault, WritesWhole}
-use Rattle.trace_judging.proofs.InputFacts.{refusal_of_prefix, spells_of_prefix}
-use Rattle.trace_judging.proofs.ReaderFacts.{ShowsNoWhole, leaves_prefix, text_of_prefix}
+use Rattle.trace_streams.specs.Limits.{trace_read_limit}
+use Rattle.text_streams.specs.Streams.{AppendsPrefix}
+use Rattle.trace_judging.specs.WrittenReports.{IsCheckReportOfReaders}
+use Rattle.text_streams.specs.WrittenTexts.{LeavesAtFault, WritesWhole}
+use Rattle.trace_streams.proofs.InputFacts.{refusal_of_prefix, spells_of_prefix}
+use Rattle.trace_judging.proofs.ReaderFacts.{ShowsNoWhole, text_of_prefix}
+use Rattle.text_streams.proofs.StreamFacts.{leaves_prefix, faults_as, writes_as}
 use Rattle.trace_reports.specs.declared.verdicts.Verdict.{Verdict}
 use Rattle.trace_reports.specs.declared.verdicts.Verdict.TheVariants.{Refused}
-use Rattle.trace_reports.specs.Readings.{ReadsAs}
+use Rattle.text_streams.specs.Readings.{ReadsAs}
 use Rattle.trace_reports.specs.Renderings.{IsTextOfInput, IsTextOfReader}
-use Rattle.trace_reports.proofs.ReadingFacts.{reads_more}
+use Rattle.text_streams.proofs.ReadingFacts.{reads_more}
 use Rattle.tso_text.specs.Refusals.{IsRefusedTrace}
 use Rattle.tso_text.proofs.TextLaws.{trace_laws}
 use Rattle.request_serving.specs.Endings.{IsCheckOfNth, IsCheckedBy, IsPresented}
 use Rattle.request_serving.specs.Presentations.{refused_as, said_as}
-use Rattle.request_serving.specs.NthTraces.{IsRefusedNth, IsSaidOfNth, nth_refusal}
-use Rattle.request_serving.proofs.EndFacts.{faults_as, writes_as}
+use Rattle.request_texts.specs.NthTraces.{IsRefusedNth, IsSaidOfNth, nth_refusal}
 
 -- ---- what is said of the first bytes of a piece is said of the piece
 

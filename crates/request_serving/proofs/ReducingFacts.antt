@@ -2,20 +2,21 @@
 use Rattle.std.proofs.Common.{ℕ, List, None, Some, Result, IfOk, IfErr, ◌≡◌}
 use Rattle.std.specs.Prelude.{Option}
 use Rattle.std.specs.Io.KnownBytes.{Appends}
-use Rattle.trace_batches.specs.NthPieces.{IsKeptOfNth}
-use Rattle.trace_judging.specs.declared.faults.Fault.{Fault}
-use Rattle.trace_judging.specs.declared.faults.Fault.TheVariants.{Write}
-use Rattle.trace_judging.specs.Streams.{AppendsPrefix}
-use Rattle.trace_judging.specs.WrittenReports.{LeavesAtFault, WritesWhole}
+use Rattle.trace_streams.specs.NthPieces.{IsKeptOfNth}
+use Rattle.text_streams.specs.declared.faults.Fault.{Fault}
+use Rattle.text_streams.specs.declared.faults.Fault.TheVariants.{Write}
+use Rattle.text_streams.specs.Streams.{AppendsPrefix}
+use Rattle.text_streams.specs.WrittenTexts.{LeavesAtFault, WritesWhole}
 use Rattle.trace_reports.specs.declared.verdicts.Verdict.{Verdict}
 use Rattle.trace_reports.specs.declared.verdicts.Verdict.TheVariants.{Refused}
-use Rattle.trace_reports.specs.Readings.{ReadsAs}
+use Rattle.text_streams.specs.Readings.{ReadsAs}
 use Rattle.trace_reduction.specs.Reductions.{IsReductionOf, IsReductionOfReader}
 use Rattle.trace_reduction.proofs.ReductionFacts.{reduction_of_prefix}
-use Rattle.request_serving.specs.NthTraces.{IsSaidOfNth, nth_refusal}
-use Rattle.request_serving.specs.OpenedFiles.{HasKnown}
+use Rattle.request_texts.specs.NthTraces.{IsSaidOfNth, nth_refusal}
+use Rattle.request_texts.specs.OpenedFiles.{HasKnown}
 use Rattle.request_serving.specs.Reducing.{IsReduced}
-use Rattle.request_serving.proofs.EndFacts.{faults_as, known_reads, writes_as}
+use Rattle.text_streams.proofs.StreamFacts.{faults_as, writes_as}
+use Rattle.request_texts.proofs.KnownFacts.{known_reads}
 use Rattle.request_serving.proofs.NthFacts.{fewer_left, fewer_written, said_of_kept}
 
 -- what is said of a file of which less may be known

@@ -9,8 +9,6 @@ use Rattle.trace_batches.specs.declared.batches.BatchFormat.TheVariants.{Words, 
 use Rattle.trace_batches.specs.declared.batches.BatchMethod.{BatchMethod}
 use Rattle.trace_batches.specs.declared.batches.BatchMethod.TheVariants.{Judge, Decide}
 use Rattle.trace_batches.specs.declared.batches.BatchPrinting.{BatchPrinting}
-use Rattle.trace_batches.specs.declared.tallies.BatchVerdict.{BatchVerdict}
-use Rattle.trace_batches.specs.declared.tallies.BatchVerdict.TheVariants.{NoViolation, Violation, Undecided, Refused, Unread}
 
 abbrev pub asked_format : AskedFormat → BatchFormat
 asked_format asked.Words = Words
@@ -47,10 +45,3 @@ are_several texts = nat_lt 1 (length texts)
 -- these are the texts of a batch of files, where standard input has these bytes, and the file of each name those
 abbrev pub AreTextsOfBatch : List (Option (List ℕ)) → Option (List ℕ) → (List ℕ → Option (List ℕ)) → List BatchText → Type 0
 AreTextsOfBatch named input files texts = AreNamedTexts (are_several named) input files named texts
-
-abbrev pub status_of_batch : BatchVerdict → ℕ
-status_of_batch NoViolation = 0
-status_of_batch Undecided = 1
-status_of_batch Refused = 2
-status_of_batch Violation = 3
-status_of_batch Unread = 4

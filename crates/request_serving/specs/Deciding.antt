@@ -1,19 +1,13 @@
--- What `decide` and `verify` print, and the statuses of what they say.
+-- What `decide` and `verify` print.
 use Rattle.std.specs.Prelude.{ℕ, List, Option}
 use Rattle.command_line.specs.declared.options.Presentation.{Presentation}
-use Rattle.trace_decisions.specs.declared.answers.Answer.{Answer}
-use Rattle.trace_decisions.specs.declared.answers.Answer.TheVariants.{Consistent, Violation, Undecided, Refused}
+use Rattle.trace_reports.specs.declared.answers.Answer.{Answer}
+use Rattle.trace_reports.specs.declared.answers.Answer.TheVariants.{Refused}
 use Rattle.trace_decisions.specs.DecisionTexts.{IsDecisionOf}
 use Rattle.trace_decisions.specs.EvidenceReports.{IsVerification}
-use Rattle.trace_reports.specs.Readings.{ReadsAs}
-use Rattle.request_serving.specs.NthTraces.{IsSaidOfNth}
+use Rattle.text_streams.specs.Readings.{ReadsAs}
+use Rattle.request_texts.specs.NthTraces.{IsSaidOfNth}
 use Rattle.request_serving.specs.Presentations.{decided_as, refused_as}
-
-abbrev pub status_of_answer : Answer → ℕ
-status_of_answer Consistent = 0
-status_of_answer Undecided = 1
-status_of_answer Refused = 2
-status_of_answer Violation = 3
 
 -- the decision in this form, after at most so many steps, on the only trace of a reader's bytes, or on the one of this number
 abbrev pub IsDecided : Presentation → ℕ → Option ℕ → Option (List ℕ) → List ℕ → Answer → Type 0

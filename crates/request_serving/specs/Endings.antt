@@ -4,33 +4,35 @@ use Rattle.std.specs.Fmt.{decimal}
 use Rattle.std.specs.Io.KnownBytes.{Appends, Keeps}
 use Rattle.trace_reports.specs.declared.verdicts.Verdict.{Verdict}
 use Rattle.trace_reports.specs.declared.verdicts.Verdict.TheVariants.{Refused}
-use Rattle.trace_judging.specs.declared.faults.Fault.{Fault}
-use Rattle.trace_judging.specs.declared.faults.Fault.TheVariants.{OutOfMemory, Read, Write, NoThread, Missing}
-use Rattle.trace_judging.specs.Streams.{AppendsPrefix}
+use Rattle.text_streams.specs.declared.faults.Fault.{Fault}
+use Rattle.text_streams.specs.declared.faults.Fault.TheVariants.{OutOfMemory, Read, Write, NoThread, Missing}
+use Rattle.text_streams.specs.Streams.{AppendsPrefix}
 use Rattle.trace_judging.specs.Checks.{IsCheckReport}
-use Rattle.trace_judging.specs.WrittenReports.{LeavesAtFault, WritesWhole}
-use Rattle.trace_reports.specs.Readings.{ReadsAs}
+use Rattle.text_streams.specs.WrittenTexts.{LeavesAtFault, WritesWhole}
+use Rattle.text_streams.specs.Readings.{ReadsAs}
 use Rattle.trace_reports.specs.Renderings.{IsTextOfInput}
 use Rattle.trace_batches.specs.Batches.{BatchText, IsBatchFault, LeavesBatch, WritesBatch}
 use Rattle.trace_batches.specs.declared.batches.BatchPrinting.{BatchPrinting}
-use Rattle.trace_batches.specs.declared.tallies.BatchVerdict.{BatchVerdict}
+use Rattle.trace_reports.specs.declared.answers.Answer.{Answer}
 use Rattle.log_reports.specs.declared.reports.LogOptions.{LogOptions}
 use Rattle.log_reports.specs.LogReports.{IsLogReportOfReader}
 use Rattle.outcome_reports.specs.Outcomes.{IsOutcomesOfReader}
 use Rattle.outcome_reports.specs.SeenTraces.{IsSeenOfReaders}
-use Rattle.request_serving.specs.Batches.{AreTextsOfBatch, asked_printing, status_of_batch}
-use Rattle.request_serving.specs.Campaigning.{IsCampaignText, LeavesCampaignText}
-use Rattle.request_serving.specs.Deciding.{IsDecided, IsVerificationOfNth, status_of_answer}
-use Rattle.request_serving.specs.Logs.{options_of, status_of_log}
-use Rattle.request_serving.specs.MadePrograms.{IsMadeText, LeavesMadeText}
-use Rattle.request_serving.specs.NthTraces.{IsSaidOfNth}
-use Rattle.request_serving.specs.OpenedFiles.{text_bytes}
+use Rattle.request_serving.specs.Batches.{AreTextsOfBatch, asked_printing}
+use Rattle.run_serving.specs.Campaigning.{IsCampaignText, LeavesCampaignText}
+use Rattle.request_serving.specs.Deciding.{IsDecided, IsVerificationOfNth}
+use Rattle.request_serving.specs.Logs.{options_of}
+use Rattle.run_serving.specs.MadePrograms.{IsMadeText, LeavesMadeText}
+use Rattle.request_texts.specs.NthTraces.{IsSaidOfNth}
+use Rattle.request_texts.specs.OpenedFiles.{text_bytes}
 use Rattle.request_serving.specs.Outcomes.{asked_outcomes}
 use Rattle.request_serving.specs.Presentations.{refused_as, said_as}
 use Rattle.request_serving.specs.Reducing.{IsReduced}
-use Rattle.request_serving.specs.Replaying.{IsReplayText}
-use Rattle.request_serving.specs.Running.{IsRunText, IsRunTimesText, LeavesRunTimes}
-use Rattle.request_serving.specs.Statuses.{status_of}
+use Rattle.run_serving.specs.Replaying.{IsReplayText}
+use Rattle.run_serving.specs.Running.{IsRunText, IsRunTimesText, LeavesRunTimes}
+use Rattle.trace_reports.specs.Statuses.{status_of, status_of_answer}
+use Rattle.run_serving.specs.declared.failures.RunFailure.{RunFailure}
+use Rattle.run_serving.specs.declared.failures.RunFailure.TheVariants.{Fault as ByFault, Torn, OtherProgram}
 use Rattle.command_line.specs.declared.options.Presentation.{Presentation}
 use Rattle.command_line.specs.declared.options.RunOptions.{RunOptions}
 use Rattle.command_line.specs.declared.options.UnitOptions.{UnitOptions}
@@ -54,6 +56,12 @@ WritesFaultLine before errors Read = AppendsPrefix before errors (fault_line (co
 WritesFaultLine before errors Write = AppendsPrefix before errors (fault_line (codes "Write"))
 WritesFaultLine before errors NoThread = AppendsPrefix before errors (fault_line (codes "NoThread"))
 WritesFaultLine before errors (Missing seed) = AppendsPrefix before errors (fault_line (codes "Missing " ++ decimal seed))
+
+-- Known errors grow by the failure's line or a prefix of it, since their writer may fail.
+abbrev pub WritesFailureLine : Option (List ℕ) → Option (List ℕ) → RunFailure → Type 0
+WritesFailureLine before errors (ByFault fault) = WritesFaultLine before errors fault
+WritesFailureLine before errors (Torn p) = AppendsPrefix before errors (fault_line (codes "Torn " ++ decimal p))
+WritesFailureLine before errors OtherProgram = AppendsPrefix before errors (fault_line (codes "OtherProgram"))
 
 -- ---- what was written, and the status
 
@@ -107,8 +115,8 @@ EndsWithoutThread {X} is_text status_by o status = Ends is_text status_by (λ ol
 -- by its notes. Or a fault left a prefix of both, and then its line was written to the errors.
 abbrev pub EndsBatched : BatchPrinting → (List BatchText → Type 0) → Outputs → ℕ → Type 0
 EndsBatched printing are_texts o status =
-    ((verdict : BatchVerdict) × ((texts : List BatchText) × are_texts texts × WritesBatch printing texts o.written_before o.written o.errors_before o.errors verdict)
-    × (status ≡ status_of_batch verdict))
+    ((verdict : Answer) × ((texts : List BatchText) × are_texts texts × WritesBatch printing texts o.written_before o.written o.errors_before o.errors verdict)
+    × (status ≡ status_of_answer verdict))
     ⊎ ((fault : Fault) × IsBatchFault fault
     × ((noted : Option (List ℕ)) × ((texts : List BatchText) × are_texts texts × LeavesBatch printing texts o.written_before o.written o.errors_before noted)
     × WritesFaultLine noted o.errors fault)
@@ -123,7 +131,7 @@ EndsWithNotes {X} is_text status_by o status =
 
 -- the report on the log that a reader's bytes spell, or its refusal
 abbrev pub EndsLogged : LogOptions → Option (List ℕ) → Outputs → ℕ → Type 0
-EndsLogged options remaining o status = EndsWithNotes (IsLogReportOfReader options remaining) status_of_log o status
+EndsLogged options remaining o status = EndsWithNotes (IsLogReportOfReader options remaining) status_of_answer o status
 
 -- The line that a run gave no record was written to the errors.
 abbrev pub TellsUnrecorded : Outputs → Type 0
@@ -172,9 +180,9 @@ EndsAsAsked (logging file options) input files o status = EndsLogged (options_of
 EndsAsAsked (checking trace certificate nth) input files o status = EndsWithoutThread (IsCheckOfNth nth (text_bytes trace input files) (text_bytes certificate input files)) status_of o status
 EndsAsAsked (verifying trace evidence nth) input files o status =
     EndsWithoutThread (IsVerificationOfNth nth (text_bytes trace input files) (text_bytes evidence input files)) status_of_answer o status
-EndsAsAsked (listing program limit states) input files o status = EndsWithoutThread (IsOutcomesOfReader (asked_outcomes limit states) (text_bytes program input files)) status_of_batch o status
+EndsAsAsked (listing program limit states) input files o status = EndsWithoutThread (IsOutcomesOfReader (asked_outcomes limit states) (text_bytes program input files)) status_of_answer o status
 EndsAsAsked (counting program stream limit) input files o status =
-    EndsWithoutThread (IsSeenOfReaders limit (text_bytes program input files) (text_bytes stream input files)) status_of_batch o status
+    EndsWithoutThread (IsSeenOfReaders limit (text_bytes program input files) (text_bytes stream input files)) status_of_answer o status
 EndsAsAsked (replaying options program schedule) input files o status =
     let is_text = IsReplayText options (text_bytes program input files) (text_bytes schedule input files) in EndsByText is_text (LeavesAtFault is_text) o status
 EndsAsAsked (running options seed turns program) input files o status = EndsRun options (text_bytes program input files) o status

@@ -1,4 +1,2 @@
 -- For private functions alone.
 pub mod Batching
-pub mod Ranges
-pub mod Runs

@@ -6,9 +6,9 @@ use Rattle.command_line.specs.Requests.{Asked, needs}
 use Rattle.tso_ops.specs.Values.{ProgramValue}
 use Rattle.tso_report.specs.Campaigns.{is_lawful_under}
 use Rattle.tso_text.specs.Texts.{SpellsProgram}
-use Rattle.request_serving.specs.BenchUnits.{is_lawful_under_all}
-use Rattle.request_serving.specs.OpenedFiles.{text_bytes}
-use Rattle.request_serving.specs.Printing.{unit_of}
+use Rattle.run_serving.specs.BenchUnits.{is_lawful_under_all}
+use Rattle.request_texts.specs.OpenedFiles.{text_bytes}
+use Rattle.run_serving.specs.Printing.{unit_of}
 
 -- Whatever its text is, a program is replayed, or run with a thread per processor, on a unit that is lawful for it: one that is lawful for programs of each
 -- memory model.

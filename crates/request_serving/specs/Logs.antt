@@ -1,13 +1,10 @@
--- How it is reported on a log, as it is asked for, and the statuses of what is said of it.
-use Rattle.std.specs.Prelude.{ℕ}
+-- How it is reported on a log, as it is asked for.
 use Rattle.command_line.specs.declared.options.LogForm.{LogForm as AskedForm}
 use Rattle.command_line.specs.declared.options.LogForm.TheVariants as asked
 use Rattle.command_line.specs.declared.options.LogOptions.{LogOptions as AskedOptions}
 use Rattle.log_reports.specs.declared.rendering.LogForm.{LogForm}
 use Rattle.log_reports.specs.declared.rendering.LogForm.TheVariants.{Lines, Explained, Traces}
 use Rattle.log_reports.specs.declared.reports.LogOptions.{LogOptions}
-use Rattle.log_reports.specs.declared.reports.LogVerdict.{LogVerdict}
-use Rattle.log_reports.specs.declared.reports.LogVerdict.TheVariants.{NoViolation, NotAllJudged, Violation, Refused}
 
 abbrev pub form_of : AskedForm → LogForm
 form_of asked.Lines = Lines
@@ -16,9 +13,3 @@ form_of asked.Traces = Traces
 
 abbrev pub options_of : AskedOptions → LogOptions
 options_of options = record { most = options.most; effort = options.effort; max_unknown = options.max_unknown; needs_end = options.needs_end; form = form_of options.form }
-
-abbrev pub status_of_log : LogVerdict → ℕ
-status_of_log NoViolation = 0
-status_of_log NotAllJudged = 1
-status_of_log Refused = 2
-status_of_log Violation = 3

@@ -4,23 +4,23 @@ ghost use Rattle.std.specs.declared.io.ErrorKind.TheVariants.{OutOfMemory as NoM
 ghost use Rattle.command_line.specs.Refusals.{Refuses};
 ghost use Rattle.command_line.specs.Requests.{Asked, texts_in};
 ghost use Rattle.command_line.specs.Spellings.{Asks, AsksHelp};
-ghost use Rattle.trace_judging.specs.Streams.{AppendsPrefix};
-ghost use Rattle.trace_judging.specs.declared.faults.Fault.TheVariants.{OutOfMemory};
+ghost use Rattle.text_streams.specs.Streams.{AppendsPrefix};
+ghost use Rattle.text_streams.specs.declared.faults.Fault.TheVariants.{OutOfMemory};
 ghost use Rattle.request_serving.specs.Endings.{LeadTo, WritesFaultLine, invalid_utf8_line, outputs};
 ghost use Rattle.request_serving.specs.LawfulRequests.{RunsLawfully, runs_on_lawful_unit};
-ghost use Rattle.request_serving.specs.OpenedFiles.{HasRefusedFirstText, OpensFirst, TakesInput, files_named, reads_input};
+ghost use Rattle.request_texts.specs.OpenedFiles.{HasRefusedFirstText, OpensFirst, TakesInput, files_named, reads_input};
 
-use crate::diagnostics::Diagnostics;
-use crate::endings::{FAULT, REFUSED, end_by};
-use crate::files::{Surroundings, SystemFiles};
+use crate::endings::end_by;
 use crate::serving::{refuse, serve};
 use command_line::read_arguments;
+use request_texts::{Diagnostics, Surroundings, SystemFiles};
 use std::io;
 use std::io::{Read, Write};
 use std::rt::{Clock, Files};
 use std::sync::Wait;
 use std::thread::Threads;
-use trace_judging::Fault;
+use text_streams::Fault;
+use trace_reports::{FAULT, REFUSED};
 
 /// Does what the arguments of a command line ask for, and answers the status that the program ends with.
 ///

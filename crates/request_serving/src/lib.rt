@@ -4,19 +4,10 @@
 //! that is had already. `README.md` says what is proved.
 #![tactic(auto)]
 
-pub use diagnostics::{Diagnostics, WatchedReader};
 pub use driving::{drive, drive_over, end_without_arguments};
 pub use endings::{end_by, end_run};
-pub use failures::{RunFailure, failure_of};
-pub use files::{Surroundings, SystemFiles};
 pub use serving::serve;
 
-mod diagnostics;
 mod driving;
 mod endings;
-mod failures;
-mod files;
-mod hints;
-mod printing;
 mod serving;
-mod units;

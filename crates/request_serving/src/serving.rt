@@ -2,50 +2,40 @@
 ghost use Rattle.std.specs.Prelude.{◌≡◌, ◌≢◌, true, false};
 ghost use Rattle.command_line.specs.Requests.{HasDrainTurns, HasOneInput, HasUnitRanges, HasWorkers, asked_of};
 ghost use Rattle.trace_judging.specs.Limits.{worker_limit};
-ghost use Rattle.trace_judging.specs.Streams.{AppendsPrefix};
+ghost use Rattle.text_streams.specs.Streams.{AppendsPrefix};
 ghost use Rattle.request_serving.specs.Endings.{EndsAsAsked, EndsShowing, EndsWithText, outputs};
 ghost use Rattle.request_serving.specs.LawfulRequests.{RunsLawfully, runs_on_lawful_unit};
-ghost use Rattle.request_serving.specs.OpenedFiles.{HasRefusedFirstText, OpensFirst, OpensNext, TakesInput, files_named, reads_input};
+ghost use Rattle.request_texts.specs.OpenedFiles.{HasRefusedFirstText, OpensFirst, OpensNext, TakesInput, files_named, reads_input};
 
-use crate::endings::{
-    DONE, REFUSED, end, end_answer, end_batch, end_by, end_log, end_run, end_with,
-};
-use crate::files::Surroundings;
-use crate::hints::SHAPE_LIMITS;
+use crate::endings::{end, end_answer, end_by, end_run, end_with};
 use crate::serving::batching::batch_named;
-use crate::serving::campaigning::{campaign_by, limits_of};
 use crate::serving::checking::check_named;
 use crate::serving::counting::count_named;
 use crate::serving::deciding::decide_named;
 use crate::serving::judging::judge_named;
 use crate::serving::listing::list_named;
 use crate::serving::logging::log_named;
-use crate::serving::making::make;
 use crate::serving::reducing::reduce_named;
-use crate::serving::repeating::repeat_named;
-use crate::serving::replaying::replay_named;
-use crate::serving::running::run_named;
 use crate::serving::verifying::verify_named;
 use command_line::Request;
+use request_texts::{SHAPE_LIMITS, Surroundings};
+use run_serving::{campaign_by, limits_of, make, repeat_named, replay_named, run_named};
 use std::io::{Read, Write};
 use std::sync::Wait;
 use std::thread::Threads;
-use trace_judging::{Fault, MAX_WORKERS, write_text};
+use text_streams::{Fault, write_text};
+use trace_judging::MAX_WORKERS;
+use trace_reports::{DONE, REFUSED};
 
 mod batching;
-mod campaigning;
 mod checking;
 mod counting;
 mod deciding;
 mod judging;
 mod listing;
 mod logging;
-mod making;
 mod numbering;
 mod reducing;
-mod repeating;
-mod replaying;
-mod running;
 mod verifying;
 
 /// The command line lets just those numbers of workers through that a trace is judged with.
@@ -109,12 +99,12 @@ pub fn serve<H: Threads + Wait + Sync + AllocGlobal, O: Surroundings, R: Read, W
         Request::Batch(request) => {
             let judged = batch_named(rt, request, files, reader, writer, errors);
             files.finish();
-            end_batch(judged, errors)
+            end_answer(judged, errors)
         }
         Request::Log(request) => {
             let reported = log_named(rt, request, files, reader, writer, errors);
             files.finish();
-            end_log(reported, errors)
+            end_answer(reported, errors)
         }
         Request::Check(request) => {
             let checked = check_named(rt.alloc(), request, files, reader, writer);
@@ -126,11 +116,11 @@ pub fn serve<H: Threads + Wait + Sync + AllocGlobal, O: Surroundings, R: Read, W
         }
         Request::Outcomes(request) => {
             let listed = list_named(rt.alloc(), request, files, reader, writer);
-            end_batch(listed, errors)
+            end_answer(listed, errors)
         }
         Request::Seen(request) => {
             let counted = count_named(rt.alloc(), request, files, reader, writer);
-            end_batch(counted, errors)
+            end_answer(counted, errors)
         }
         Request::Replay { options, texts } => {
             let replayed = replay_named(rt, options, *texts, files, reader, writer);

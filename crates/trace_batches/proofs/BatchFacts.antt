@@ -5,13 +5,13 @@ use Rattle.std.specs.Global.{Vec}
 use Rattle.std.specs.Io.KnownBytes.{Appends, Consumes, IsAtEnd, prepend_known}
 use Rattle.std.proofs.KnownBytes.{Appends-nil, Appends-trans, Consumes-nil, Consumes-trans, Consumes-whole}
 use Rattle.std.proofs.lemmas.List.{append-nil, take-append-drop, take-map}
-use Rattle.trace_batches.specs.Internal.Cutters.{CutterValue, Cuts, IsAt, rows}
-use Rattle.trace_batches.specs.Pieces.{ArePieces, IsSplit, last_piece}
-use Rattle.trace_batches.proofs.PieceFacts.{cut_at_start, cut_joined, some_cut}
-use Rattle.trace_reports.specs.Readings.{ReadsAs}
-use Rattle.trace_judging.specs.Limits.{trace_read_limit}
-use Rattle.trace_judging.specs.Streams.{AppendsPrefix}
-use Rattle.trace_reports.proofs.ReadingFacts.{reads_whole}
+use Rattle.trace_streams.specs.Cutters.{CutterValue, Cuts, IsAt, rows}
+use Rattle.trace_streams.specs.Pieces.{ArePieces, IsSplit, last_piece}
+use Rattle.trace_streams.proofs.PieceFacts.{cut_at_start, cut_joined, some_cut}
+use Rattle.text_streams.specs.Readings.{ReadsAs}
+use Rattle.trace_streams.specs.Limits.{trace_read_limit}
+use Rattle.text_streams.specs.Streams.{AppendsPrefix}
+use Rattle.text_streams.proofs.ReadingFacts.{reads_whole}
 use Rattle.trace_batches.specs.declared.judgments.Judgment.{Judgment}
 use Rattle.trace_batches.specs.declared.questions.Question.{Question}
 use Rattle.trace_batches.specs.declared.tallies.Tally.{Tally}
@@ -20,7 +20,7 @@ use Rattle.trace_batches.specs.Judgments.{AreJudgments}
 use Rattle.trace_batches.specs.Internal.Progress.{LeavesPieces, Stands, Told, WroteAll, WroteSome}
 use Rattle.trace_batches.proofs.JobFacts.{AreJudgments-append, kept_texts, pieces_notes-append, pieces_text-append}
 use Rattle.trace_batches.proofs.JudgmentFacts.{firsts, judgments_of_firsts, some_judgments}
-use Rattle.trace_judging.proofs.StreamFacts.{prefix_after, prefix_of_more, whole_written}
+use Rattle.text_streams.proofs.StreamFacts.{prefix_after, prefix_of_more, whole_written}
 
 -- ---- what is left of a text
 

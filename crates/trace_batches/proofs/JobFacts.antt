@@ -8,10 +8,10 @@ use Rattle.std.specs.Global.{Vec}
 use Rattle.std.proofs.Math.Seq.{take-append_seam}
 use Rattle.std.proofs.lemmas.List.{append-nil, get_or-map, length-map, length_push, take_more}
 use Rattle.std.proofs.lemmas.List.Sums.{sum_by-append, sum_by-cons}
-use Rattle.trace_batches.specs.Internal.Cutters.{rows}
-use Rattle.trace_judging.specs.declared.faults.Fault.{Fault}
-use Rattle.trace_judging.specs.declared.faults.Fault.TheVariants.{NoThread}
-use Rattle.trace_judging.specs.Streams.{AppendsPrefix}
+use Rattle.trace_streams.specs.Cutters.{rows}
+use Rattle.text_streams.specs.declared.faults.Fault.{Fault}
+use Rattle.text_streams.specs.declared.faults.Fault.TheVariants.{NoThread}
+use Rattle.text_streams.specs.Streams.{AppendsPrefix}
 use Rattle.trace_batches.specs.declared.jobs.Job.{Job}
 use Rattle.trace_batches.specs.declared.judgments.Judgment.{Judgment}
 use Rattle.trace_batches.specs.declared.judgments.Judgment.TheVariants.{NoViolation, Violation, Consistent, Undecided, Refused}
@@ -21,8 +21,8 @@ use Rattle.trace_batches.specs.Batches.{asked, Counts, IsBatchFault, TextPrintin
 use Rattle.trace_batches.specs.Judgments.{AreJudgments, IsJudgment, says_violation}
 use Rattle.trace_batches.specs.Internal.Progress.{AreJudged, IsJobOf, IsOutcome, WroteAll, WroteSome}
 use Rattle.trace_batches.proofs.JudgmentFacts.{firsts, kept_violation}
-use Rattle.trace_judging.specs.Limits.{trace_read_limit}
-use Rattle.trace_judging.proofs.StreamFacts.{prefix_after, whole_written}
+use Rattle.trace_streams.specs.Limits.{trace_read_limit}
+use Rattle.text_streams.proofs.StreamFacts.{prefix_after, whole_written}
 
 -- ---- judgments
 

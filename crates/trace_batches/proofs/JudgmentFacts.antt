@@ -15,6 +15,7 @@ use Rattle.tso_text.specs.declared.faults.Why.{Why}
 use Rattle.tso_text.specs.declared.faults.Why.TheVariants.{TooLong}
 use Rattle.tso_text.specs.Refusals.{IsTraceRefusal}
 use Rattle.tso_text.specs.Texts.{SpellsTrace, text_byte_limit}
+use Rattle.trace_streams.specs.Limits.{trace_read_limit}
 use Rattle.tso_text.proofs.TextLaws.{trace_laws}
 use Rattle.tso_model.specs.Axioms.{IsConsistent}
 use Rattle.tso_model.specs.Certs.{Holds, IsCertificateOf}
@@ -30,9 +31,8 @@ use Rattle.trace_reports.specs.RefusalLines.{refusal_text}
 use Rattle.trace_reports.specs.Reports.{IsReport, refusal_shown, reported}
 use Rattle.trace_reports.specs.Violations.{IsViolation}
 use Rattle.trace_reports.proofs.RenderingFacts.{one_text, refused_exactly, some_text, trace_no_order, trace_verdict, trace_violation, violation_exactly}
-use Rattle.trace_judging.specs.Limits.{trace_read_limit}
-use Rattle.trace_judging.proofs.InputFacts.{refusal_of_prefix, spells_of_prefix}
-use Rattle.trace_decisions.specs.declared.answers.Answer.TheVariants as answer
+use Rattle.trace_streams.proofs.InputFacts.{refusal_of_prefix, spells_of_prefix}
+use Rattle.trace_reports.specs.declared.answers.Answer.TheVariants as answer
 use Rattle.trace_decisions.specs.declared.decisions.Decision.{Decision}
 use Rattle.trace_decisions.specs.declared.decisions.Decision.TheVariants.{Decided}
 use Rattle.trace_decisions.specs.declared.decisions.Decision.TheVariants as decided

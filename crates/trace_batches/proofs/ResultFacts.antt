@@ -2,7 +2,7 @@
 use Rattle.std.proofs.Common.{◌≡◌, ℕ, ◌+◌, Bool, true, false, ◌||◌, List, [], ◌∷◌, ◌++◌, None, Some, IfSome, refl, ap, ap₂, arith, sym, subst, unwrap_or, ◌∙◌, append_assoc}
 use Rattle.std.specs.Prelude.{Option}
 use Rattle.std.proofs.lemmas.List.{append-nil}
-use Rattle.trace_reports.proofs.ReadingFacts.{reads_whole}
+use Rattle.text_streams.proofs.ReadingFacts.{reads_whole}
 use Rattle.trace_batches.specs.declared.batches.BatchMethod.TheVariants.{Judge}
 use Rattle.trace_batches.specs.declared.batches.BatchPrinting.{BatchPrinting}
 use Rattle.trace_batches.specs.declared.judgments.Judgment.{Judgment}
@@ -11,7 +11,7 @@ use Rattle.trace_batches.specs.Batches.{AreFound, AreResults, AreResultsOf, AreR
 use Rattle.trace_batches.specs.Judgments.{AreJudgments, asking}
 use Rattle.trace_batches.proofs.JobFacts.{violations-append}
 use Rattle.trace_batches.proofs.JudgmentFacts.{one_list_of_judgments, some_judgments}
-use Rattle.trace_batches.proofs.PieceFacts.{one_list_of_pieces, some_pieces}
+use Rattle.trace_streams.proofs.PieceFacts.{one_list_of_pieces, some_pieces}
 
 pub results-append : (question : Question) (texts more : List BatchText) (all others : List TextResults) → AreResultsOfAll question texts all → AreResultsOfAll question more others →
     AreResultsOfAll question (texts ++ more) (all ++ others)

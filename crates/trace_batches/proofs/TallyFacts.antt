@@ -5,8 +5,8 @@ use Rattle.std.specs.List.{count_by, list_any}
 use Rattle.std.proofs.lemmas.Bool.{cond-false, cond-true, le-ltb, lt-ltb}
 use Rattle.std.proofs.lemmas.List.{length-append}
 use Rattle.std.proofs.lemmas.List.Sums.{sum_by-append, sum_by-cons}
-use Rattle.trace_batches.specs.declared.tallies.BatchVerdict.{BatchVerdict}
-use Rattle.trace_batches.specs.declared.tallies.BatchVerdict.TheVariants.{NoViolation, Violation, Undecided, Refused}
+use Rattle.trace_reports.specs.declared.answers.Answer.{Answer}
+use Rattle.trace_reports.specs.declared.answers.Answer.TheVariants.{Clear, Violation, Undecided, Refused}
 use Rattle.trace_batches.specs.declared.tallies.Tally.{Tally}
 use Rattle.trace_batches.specs.Batches.{Counts, batch_verdict, count_judged}
 use Rattle.trace_batches.specs.BatchLines.{are_too_few, tally_of, total_line, total_text}
@@ -54,8 +54,8 @@ judged_by_counts tally judgments counts =
 
 module _ (required : Option ℕ) where
   -- the verdict where nothing worse is said
-  abbrev by_number : List Judgment → BatchVerdict
-  by_number judgments = cond (are_too_few required (count_judged judgments)) Undecided NoViolation
+  abbrev by_number : List Judgment → Answer
+  by_number judgments = cond (are_too_few required (count_judged judgments)) Undecided Clear
 
   -- the verdict, by the numbers
   verdict_by_counts : (tally : Tally) (judgments : List Judgment) → Counts tally judgments →
@@ -91,10 +91,10 @@ module _ (required : Option ℕ) where
       few_is = ap (are_too_few required) (sym judged) ∙ sym is
 
       pub verdict_few : few ≡ true → Undecided ≡ batch_verdict required judgments
-      verdict_few so = sym (all_decided clean decided ∙ cond-true (are_too_few required (count_judged judgments)) Undecided NoViolation (few_is ∙ so))
+      verdict_few so = sym (all_decided clean decided ∙ cond-true (are_too_few required (count_judged judgments)) Undecided Clear (few_is ∙ so))
 
-      pub verdict_enough : few ≡ false → NoViolation ≡ batch_verdict required judgments
-      verdict_enough so = sym (all_decided clean decided ∙ cond-false (are_too_few required (count_judged judgments)) Undecided NoViolation (few_is ∙ so))
+      pub verdict_enough : few ≡ false → Clear ≡ batch_verdict required judgments
+      verdict_enough so = sym (all_decided clean decided ∙ cond-false (are_too_few required (count_judged judgments)) Undecided Clear (few_is ∙ so))
 
 -- ---- the last line, by the numbers
 

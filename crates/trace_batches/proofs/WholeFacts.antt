@@ -4,16 +4,16 @@ use Rattle.std.specs.Prelude.{OnErr, Option}
 use Rattle.std.specs.Io.KnownBytes.{Appends}
 use Rattle.std.proofs.KnownBytes.{Appends-nil, Appends-trans}
 use Rattle.std.proofs.lemmas.List.{append-nil}
-use Rattle.trace_reports.specs.Readings.{ReadsAs}
-use Rattle.trace_judging.specs.Streams.{AppendsPrefix}
-use Rattle.trace_judging.proofs.StreamFacts.{none_written, prefix_after, prefix_of_more, whole_written}
+use Rattle.text_streams.specs.Readings.{ReadsAs}
+use Rattle.text_streams.specs.Streams.{AppendsPrefix}
+use Rattle.text_streams.proofs.StreamFacts.{none_written, prefix_after, prefix_of_more, whole_written}
 use Rattle.trace_batches.specs.declared.batches.BatchFormat.{BatchFormat}
 use Rattle.trace_batches.specs.declared.batches.BatchMethod.TheVariants.{Judge}
 use Rattle.trace_batches.specs.declared.batches.BatchPrinting.{BatchPrinting}
 use Rattle.trace_batches.specs.declared.batches.TextJudging.{TextJudging}
 use Rattle.trace_batches.specs.declared.begun.Batch.{Batch}
 use Rattle.trace_batches.specs.declared.judgments.Judgment.{Judgment}
-use Rattle.trace_batches.specs.declared.tallies.BatchVerdict.{BatchVerdict}
+use Rattle.trace_reports.specs.declared.answers.Answer.{Answer}
 use Rattle.trace_batches.specs.Judgments.{asking}
 use Rattle.trace_batches.specs.declared.tallies.Tally.{Tally}
 use Rattle.trace_batches.specs.BatchLines.{fault_text, few_text, total_text}
@@ -38,19 +38,19 @@ last_of printing all = last_text printing (last_line printing (all_judgments all
 abbrev text_of : BatchPrinting → List TextResults → List ℕ
 text_of printing all = head_text printing ++ (results_texts printing all ++ last_of printing all)
 
-abbrev verdict_of : BatchPrinting → List TextResults → BatchVerdict
+abbrev verdict_of : BatchPrinting → List TextResults → Answer
 verdict_of printing all = verdict_of_all printing.required all
 
 batch_of : (printing : BatchPrinting) (texts : List BatchText) (all : List TextResults) → AreResultsOfAll (asked printing) texts all →
     IsBatch printing texts (text_of printing all) (notes_text printing all) (verdict_of printing all)
 batch_of printing texts all are = record { all = all; are_results = are; whole = refl; noted = refl; says = refl }
 
-pub some_batch : (printing : BatchPrinting) (texts : List BatchText) → (text : List ℕ) × (notes : List ℕ) × (verdict : BatchVerdict) × IsBatch printing texts text notes verdict
+pub some_batch : (printing : BatchPrinting) (texts : List BatchText) → (text : List ℕ) × (notes : List ℕ) × (verdict : Answer) × IsBatch printing texts text notes verdict
 some_batch printing texts =
     let some = some_results_of_all (asked printing) texts in
     (text_of printing some.0, notes_text printing some.0, verdict_of printing some.0, batch_of printing texts some.0 some.1)
 
-pub one_batch : (printing : BatchPrinting) (streams : List (Option (List ℕ) × List ℕ)) (text other notes others : List ℕ) (v w : BatchVerdict) → printing.method ≡ Judge →
+pub one_batch : (printing : BatchPrinting) (streams : List (Option (List ℕ) × List ℕ)) (text other notes others : List ℕ) (v w : Answer) → printing.method ≡ Judge →
     IsBatch printing (known_texts streams) text notes v → IsBatch printing (known_texts streams) other others w → (text ≡ other) × (notes ≡ others) × (v ≡ w)
 one_batch printing streams text other notes others v w rules p q =
     let explains = (asked printing).explains in
@@ -144,7 +144,7 @@ module _ (batch : Batch) (printing : BatchPrinting) (texts : List BatchText) (ol
   all_of : so_far ++ last_of printing w.all ≡ text_of printing w.all
   all_of = append_assoc (head_text printing) told (last_of printing w.all)
 
-  pub ended : (new after : Option (List ℕ)) (verdict : BatchVerdict) → EndsBatch batch mid new between after verdict → WritesBatch printing texts old new before after verdict
+  pub ended : (new after : Option (List ℕ)) (verdict : Answer) → EndsBatch batch mid new between after verdict → WritesBatch printing texts old new before after verdict
   ended new after verdict ends = (
     text_of printing w.all,
     notes_text printing w.all,
@@ -292,7 +292,7 @@ module _ (batch : Batch) (line : List ℕ) (count : ℕ) (old new before mid bet
       ap₂ (λ (a b : List ℕ). a ++ b) (ap₂ note_text has.prints (line_is printing all has))
       (ap₂ (λ (a b : List ℕ). a ++ b) (ap (λ (p : BatchPrinting). few_text p.required count) has.prints ∙ ap (few_text printing.required) (judged (all_judgments all) has.counts)) (ap fault_text has.unread))
 
-  pub end_whole : (verdict : BatchVerdict) → Appends old new (last_text batch.options.printing line) → Appends before mid note → Appends mid between few → Appends between after fault →
+  pub end_whole : (verdict : Answer) → Appends old new (last_text batch.options.printing line) → Appends before mid note → Appends mid between few → Appends between after fault →
       ((judgments : List Judgment) → Counts batch.tally judgments → verdict ≡ verdict_with batch.is_unread batch.options.printing.required judgments) → EndsBatch batch old new before after verdict
   end_whole verdict written noted told faulty says = record {
     written = λ printing all has. subst (Appends old new) (ap₂ last_text has.prints (line_is printing all has)) written;

@@ -9,17 +9,17 @@ use Rattle.trace_batches.specs.declared.begun.Batch.{Batch}
 use Rattle.trace_batches.specs.declared.judgments.Judgment.{Judgment}
 use Rattle.trace_batches.specs.declared.judgments.Judgment.TheVariants as judged
 use Rattle.trace_batches.specs.declared.questions.Question.{Question}
-use Rattle.trace_batches.specs.declared.tallies.BatchVerdict.{BatchVerdict}
-use Rattle.trace_batches.specs.declared.tallies.BatchVerdict.TheVariants.{NoViolation, Violation, Undecided, Refused, Unread}
+use Rattle.trace_reports.specs.declared.answers.Answer.{Answer}
+use Rattle.trace_reports.specs.declared.answers.Answer.TheVariants.{Clear, Violation, Undecided, Refused, Unread}
 use Rattle.trace_batches.specs.declared.tallies.Tally.{Tally}
 use Rattle.trace_batches.specs.BatchLines.{are_too_few, fault_text, few_text, head_of, kept_line, total_line, trace_line, unread_line}
 use Rattle.trace_batches.specs.BatchNames.{text_label}
 use Rattle.trace_batches.specs.Judgments.{AreJudgments, asking, is_judged, says_consistent, says_refused, says_undecided, says_violation}
-use Rattle.trace_batches.specs.Pieces.{ArePieces}
-use Rattle.trace_judging.specs.declared.faults.Fault.{Fault}
-use Rattle.trace_judging.specs.declared.faults.Fault.TheVariants.{Missing}
-use Rattle.trace_judging.specs.Streams.{AppendsPrefix}
-use Rattle.trace_reports.specs.Readings.{ReadsAs}
+use Rattle.trace_streams.specs.Pieces.{ArePieces}
+use Rattle.text_streams.specs.declared.faults.Fault.{Fault}
+use Rattle.text_streams.specs.declared.faults.Fault.TheVariants.{Missing}
+use Rattle.text_streams.specs.Streams.{AppendsPrefix}
+use Rattle.text_streams.specs.Readings.{ReadsAs}
 
 -- ---- the question
 
@@ -96,19 +96,19 @@ abbrev pub count_judged : List Judgment → ℕ
 count_judged judgments = count_by is_judged judgments
 
 -- Violation where a judgment says so, else Refused or Undecided where one says that, else Undecided where fewer were judged than have to be
-abbrev pub batch_verdict : Option ℕ → List Judgment → BatchVerdict
+abbrev pub batch_verdict : Option ℕ → List Judgment → Answer
 batch_verdict required judgments =
     if list_any says_violation judgments then Violation
     else if list_any says_refused judgments then Refused
     else if list_any says_undecided judgments then Undecided
     else if are_too_few required (count_judged judgments) then Undecided
-    else NoViolation
+    else Clear
 
 -- but Unread before all others where a text can't be read
-abbrev pub verdict_with : Bool → Option ℕ → List Judgment → BatchVerdict
+abbrev pub verdict_with : Bool → Option ℕ → List Judgment → Answer
 verdict_with is_unread required judgments = if is_unread then Unread else batch_verdict required judgments
 
-abbrev pub verdict_of_all : Option ℕ → List TextResults → BatchVerdict
+abbrev pub verdict_of_all : Option ℕ → List TextResults → Answer
 verdict_of_all required all = verdict_with (any_unread all) required (all_judgments all)
 
 -- ---- the head, and what is a note
@@ -226,7 +226,7 @@ abbrev pub notes_text : BatchPrinting → List TextResults → List ℕ
 notes_text printing all = results_notes_of_all printing 0 all ++ end_notes printing all
 
 -- The text and the notes are those of the batch of these texts, by their results.
-pub record IsBatch (printing : BatchPrinting) (texts : List BatchText) (text notes : List ℕ) (verdict : BatchVerdict) : Type 0 where
+pub record IsBatch (printing : BatchPrinting) (texts : List BatchText) (text notes : List ℕ) (verdict : Answer) : Type 0 where
   pub all : List TextResults
   pub are_results : AreResultsOfAll (asked printing) texts all
   pub whole : text ≡ head_text printing ++ (results_texts printing all ++ last_text printing (last_line printing (all_judgments all)))
@@ -236,14 +236,14 @@ pub record IsBatch (printing : BatchPrinting) (texts : List BatchText) (text not
 -- ---- what is written
 
 -- known bytes of the writer grow by the text of the batch of these texts, and those of the errors by its notes
-abbrev pub WritesBatch : BatchPrinting → List BatchText → Option (List ℕ) → Option (List ℕ) → Option (List ℕ) → Option (List ℕ) → BatchVerdict → Type 0
+abbrev pub WritesBatch : BatchPrinting → List BatchText → Option (List ℕ) → Option (List ℕ) → Option (List ℕ) → Option (List ℕ) → Answer → Type 0
 WritesBatch printing texts old new before after verdict =
     (text : List ℕ) × (notes : List ℕ) × IsBatch printing texts text notes verdict × Appends old new text × Appends before after notes
 
 -- known bytes of the writer grow by a prefix of the text of the batch, and those of the errors by one of its notes
 abbrev pub LeavesBatch : BatchPrinting → List BatchText → Option (List ℕ) → Option (List ℕ) → Option (List ℕ) → Option (List ℕ) → Type 0
 LeavesBatch printing texts old new before after =
-    (verdict : BatchVerdict) × (text : List ℕ) × (notes : List ℕ) × IsBatch printing texts text notes verdict × AppendsPrefix old new text × AppendsPrefix before after notes
+    (verdict : Answer) × (text : List ℕ) × (notes : List ℕ) × IsBatch printing texts text notes verdict × AppendsPrefix old new text × AppendsPrefix before after notes
 
 -- a text without a name, alone
 abbrev pub one_text : Option (List ℕ) → List BatchText
@@ -291,7 +291,7 @@ LeavesText text before old new errors_before errors = (printing : BatchPrinting)
     × AppendsPrefix errors_before errors (next_notes printing all results)
 
 -- The last line was written, and the notes; or a prefix of each.
-pub record EndsBatch (batch : Batch) (old new before after : Option (List ℕ)) (verdict : BatchVerdict) : Type 0 where
+pub record EndsBatch (batch : Batch) (old new before after : Option (List ℕ)) (verdict : Answer) : Type 0 where
   pub written : (printing : BatchPrinting) (all : List TextResults) → HasJudged batch printing all → Appends old new (last_text printing (last_line printing (all_judgments all)))
   pub noted : (printing : BatchPrinting) (all : List TextResults) → HasJudged batch printing all → Appends before after (end_notes printing all)
   pub says : (printing : BatchPrinting) (all : List TextResults) → HasJudged batch printing all → verdict ≡ verdict_of_all printing.required all

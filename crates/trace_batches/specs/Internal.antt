@@ -1,4 +1,3 @@
-pub mod Cutters
+-- For private functions alone.
 pub mod Decided
 pub mod Progress
-pub mod Searches

@@ -13,7 +13,7 @@ use Rattle.trace_reports.specs.declared.verdicts.Verdict.{Verdict}
 use Rattle.trace_reports.specs.declared.verdicts.Verdict.TheVariants as verdict
 use Rattle.trace_reports.specs.Renderings.{IsTextOfTrace}
 use Rattle.trace_reports.specs.Violations.{IsViolation}
-use Rattle.trace_decisions.specs.declared.answers.Answer.TheVariants as answer
+use Rattle.trace_reports.specs.declared.answers.Answer.TheVariants as answer
 use Rattle.trace_decisions.specs.DecisionTexts.{IsDecisionText}
 use Rattle.trace_explanation.specs.Explained.{explained}
 use Rattle.decision_explanation.specs.Explained.{decision_explained}

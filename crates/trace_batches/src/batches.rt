@@ -1,32 +1,28 @@
 //! Judges one text of a batch: it is read and cut, and its pieces are judged and written.
 ghost use Rattle.std.specs.Prelude.{◌≡◌, ◌≤◌, ◌+◌, ◌∷◌, ◌++◌, [], List, ℕ, Option, map, take, IfSome, IfOk, IfErr, OnOk, OnErr};
 ghost use Rattle.std.specs.Io.KnownBytes.{Appends, Consumes, IsAtEnd, prepend_known};
-ghost use Rattle.trace_batches.specs.Internal.Cutters.{IsAt, rows};
-ghost use Rattle.trace_batches.specs.Pieces.{last_piece};
-ghost use Rattle.trace_judging.specs.Streams.{AppendsPrefix};
+ghost use Rattle.trace_streams.specs.Cutters.{IsAt, rows};
+ghost use Rattle.trace_streams.specs.Pieces.{last_piece};
+ghost use Rattle.text_streams.specs.Streams.{AppendsPrefix};
 ghost use Rattle.trace_batches.specs.Batches.{asked, Counts, IsBatchFault, kept_note, kept_with, last_format, piece_note, piece_text, violating_text};
 ghost use Rattle.trace_batches.specs.BatchLines.{kept_line};
 ghost use Rattle.trace_batches.specs.Internal.Progress.{AreJudged, LeavesPieces, Stands, Told, WroteAll, WroteSome, printing_by};
 ghost use Rattle.trace_batches.specs.declared.judgments.Judgment.{Judgment};
 
-use crate::cutters::Cutter;
 use crate::jobs::{Job, judge_all};
 use crate::judgments::Judgment;
 use crate::lines::written_line;
 use crate::notes::kept_line;
-use crate::streams::{read_some, write_flushed};
 use crate::tallies::{Tally, sum};
 use progress_meters::Meter;
 use std::alloc::Global;
 use std::io::{Read, Write};
 use std::sync::Wait;
 use std::thread::Threads;
-use trace_judging::Fault;
+use text_streams::{Fault, read_some, write_flushed};
+use trace_streams::{CHUNK, Cutter};
 use tso_ops::OutOfMemory;
 use tso_text::MAX_TEXT_BYTES;
-
-/// How many bytes one call of `read` asks for.
-pub(crate) const CHUNK: usize = 262_144;
 
 /// How many pieces for each worker are judged at most before their lines are written. Threads are started for each group, so
 /// a group has to be large beside their start.

@@ -1,7 +1,7 @@
 //! Pieces of a batch, judged side by side.
 ghost use Rattle.std.specs.Prelude.{◌≡◌, ◌≤◌, IfOk, map};
 ghost use Rattle.trace_batches.specs.Batches.{asked};
-ghost use Rattle.trace_batches.specs.Internal.Cutters.{rows};
+ghost use Rattle.trace_streams.specs.Cutters.{rows};
 ghost use Rattle.trace_batches.specs.Internal.Progress.{AreJudged, IsJobOf};
 
 use crate::batches::BatchOptions;
@@ -11,7 +11,7 @@ use std::alloc::Global;
 use std::sync::Wait;
 use std::thread;
 use std::thread::Threads;
-use trace_judging::Fault;
+use text_streams::Fault;
 use tso_ops::OutOfMemory;
 
 /// A piece of a stream, and what is said of it.

@@ -1,7 +1,7 @@
 //! Batches of texts that are judged one after the other.
 ghost use Rattle.std.specs.Prelude.{◌≡◌, ◌≤◌, ◌∷◌, [], List, IfSome, IfOk, IfErr, OnOk, OnErr, option_map, string_bytes};
 ghost use Rattle.std.specs.Io.KnownBytes.{Appends, Consumes};
-ghost use Rattle.trace_judging.specs.Streams.{AppendsPrefix};
+ghost use Rattle.text_streams.specs.Streams.{AppendsPrefix};
 ghost use Rattle.trace_batches.specs.BatchLines.{fault_text, few_text};
 ghost use Rattle.trace_batches.specs.BatchNames.{text_label};
 ghost use Rattle.trace_batches.specs.Batches.{Counts, EndsBatch, HasJudged, IsBatchFault, Judges, LeavesBatch, LeavesEnd, LeavesText, WritesBatch, head_text, last_format, last_text, note_text, one_text, read_text, unread_text, verdict_with};
@@ -12,15 +12,15 @@ use crate::begun::Batch;
 use crate::lines::{head, last_format};
 use crate::names::text_label;
 use crate::notes::unread_line;
-use crate::streams::write_flushed;
-use crate::tallies::{BatchVerdict, Tally, are_too_few};
+use crate::tallies::{Tally, are_too_few};
 use crate::totals::{few_line, total_line};
 use progress_meters::{Meter, NoMeter};
 use std::alloc::Global;
 use std::io::{Read, Write};
 use std::sync::Wait;
 use std::thread::Threads;
-use trace_judging::{Fault, write_text};
+use text_streams::{Fault, write_flushed, write_text};
+use trace_reports::Answer;
 use tso_ops::OutOfMemory;
 
 impl Batch {
@@ -121,11 +121,7 @@ impl Batch {
     ///
     /// Faults: OutOfMemory where an allocation was refused; Write where a writer failed, took no byte or was interrupted
     /// more than 1,048,576 times.
-    pub fn end<W: Write, E: Write>(
-        self,
-        writer: &mut W,
-        errors: &mut E,
-    ) -> Result<BatchVerdict, Fault>
+    pub fn end<W: Write, E: Write>(self, writer: &mut W, errors: &mut E) -> Result<Answer, Fault>
         ensures ended { IfOk result (EndsBatch self (W.contents writer.old) (W.contents writer.new) (E.contents errors.old) (E.contents errors.new)) }
         ensures left { OnErr result (LeavesEnd self (W.contents writer.old) (W.contents writer.new) (E.contents errors.old) (E.contents errors.new)) }
         ensures fault { IfErr result IsBatchFault }
@@ -145,11 +141,11 @@ impl Batch {
     }
 
     /// What the batch says of its texts.
-    fn verdict(&self) -> BatchVerdict
+    fn verdict(&self) -> Answer
         ensures { (judgments : List Judgment) → Counts self.now.tally judgments → result ≡ verdict_with self.now.is_unread self.now.options.printing.required judgments }
     {
         if self.is_unread {
-            BatchVerdict::Unread
+            Answer::Unread
         } else {
             self.tally.verdict(self.options.printing.required)
         }
@@ -176,7 +172,7 @@ pub fn judge_batch<H: Threads + Wait + Sync, R: Read, W: Write, E: Write>(
     reader: &mut R,
     writer: &mut W,
     errors: &mut E,
-) -> Result<BatchVerdict, Fault>
+) -> Result<Answer, Fault>
     requires { 1 ≤ options.workers }
     ensures whole { IfOk result (WritesBatch options.printing (one_text (R.remaining reader.old)) (W.contents writer.old) (W.contents writer.new) (E.contents errors.old) (E.contents errors.new)) }
     ensures taken { IfOk result (λ _. IfSome (R.remaining reader.old) (λ all. Consumes (R.remaining reader.old) (R.remaining reader.new) all)) }

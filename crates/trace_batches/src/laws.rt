@@ -1,15 +1,14 @@
-//! What the definitions of pieces and batches say, proved of all streams.
+//! What the definitions of batches say, proved of all streams.
 ghost use Rattle.std.specs.Prelude.{◌≡◌, ◌⊎◌, ◌<◌, ◌↔◌, ◌∷◌, ◌++◌, [], ℕ, Bool, List, Option, length, map, take, false, true};
-ghost use Rattle.std.specs.List.{concat, flat_map};
-ghost use Rattle.trace_batches.specs.Pieces.{ArePieces};
+ghost use Rattle.std.specs.List.{flat_map};
 ghost use Rattle.tso_ops.specs.Values.{TraceValue};
-ghost use Rattle.trace_judging.specs.Limits.{trace_read_limit};
+ghost use Rattle.tso_text.specs.Texts.{text_byte_limit};
+ghost use Rattle.trace_streams.specs.Limits.{trace_read_limit};
 ghost use Rattle.trace_reports.specs.RefusalLines.{refusal_text};
 ghost use Rattle.trace_reports.specs.Reports.{IsReport};
 ghost use Rattle.trace_reports.specs.declared.verdicts.Verdict.{Verdict};
 ghost use Rattle.tso_text.specs.Printed.{trace_text};
 ghost use Rattle.tso_text.specs.Refusals.{IsTraceRefusal};
-ghost use Rattle.tso_text.specs.Texts.{text_byte_limit};
 ghost use Rattle.tso_text.specs.declared.faults.TextFault.{TextFault};
 ghost use Rattle.tso_text.specs.declared.faults.Why.{Why};
 ghost use Rattle.trace_batches.specs.Batches.{asked, BatchText, IsBatch, head_text, known_texts, last_line, last_text, pieces_text, under_name};
@@ -18,14 +17,7 @@ ghost use Rattle.trace_batches.specs.declared.batches.BatchMethod.TheVariants.{J
 ghost use Rattle.trace_batches.specs.declared.batches.BatchPrinting.{BatchPrinting};
 ghost use Rattle.trace_batches.specs.declared.judgments.Judgment.{Judgment};
 ghost use Rattle.trace_batches.specs.declared.questions.Question.{Question};
-ghost use Rattle.trace_batches.specs.declared.tallies.BatchVerdict.{BatchVerdict};
-
-/// Each stream has one list of pieces, which joined are the stream.
-pub fn pieces()
-    ensures exists { (stream : List ℕ) → (pieces : List (List ℕ)) × ArePieces stream pieces }
-    ensures one { (stream : List ℕ) (pieces others : List (List ℕ)) → ArePieces stream pieces → ArePieces stream others → pieces ≡ others }
-    ensures joined { (stream : List ℕ) (pieces : List (List ℕ)) → ArePieces stream pieces → stream ≡ concat pieces }
-{}
+ghost use Rattle.trace_reports.specs.declared.answers.Answer.{Answer};
 
 /// By the rules one thing is said of each piece, which is what its report says: the verdict, and the line of a refusal. Where it is
 /// asked for, what explains a violation is one too.
@@ -46,8 +38,8 @@ pub fn decisions()
 
 /// Texts have a batch, and by the rules one, with one text, one text of notes and one verdict, whatever is printed of them.
 pub fn batches()
-    ensures exists { (printing : BatchPrinting) (texts : List BatchText) → (text : List ℕ) × (notes : List ℕ) × (verdict : BatchVerdict) × IsBatch printing texts text notes verdict }
-    ensures one { (printing : BatchPrinting) (streams : List (Option (List ℕ) × List ℕ)) (text other notes others : List ℕ) (v w : BatchVerdict) → printing.method ≡ Judge → IsBatch printing (known_texts streams) text notes v → IsBatch printing (known_texts streams) other others w → (text ≡ other) × (notes ≡ others) × (v ≡ w) }
+    ensures exists { (printing : BatchPrinting) (texts : List BatchText) → (text : List ℕ) × (notes : List ℕ) × (verdict : Answer) × IsBatch printing texts text notes verdict }
+    ensures one { (printing : BatchPrinting) (streams : List (Option (List ℕ) × List ℕ)) (text other notes others : List ℕ) (v w : Answer) → printing.method ≡ Judge → IsBatch printing (known_texts streams) text notes v → IsBatch printing (known_texts streams) other others w → (text ≡ other) × (notes ≡ others) × (v ≡ w) }
 {}
 
 /// A piece of more than 1,048,576 bytes has one report, a refusal as TooLong at line 0. Of what is kept of a piece, its
@@ -57,9 +49,8 @@ pub fn long_pieces()
     ensures kept { (question : Question) (piece : List ℕ) (judgment : Judgment) → IsJudgment question (take trace_read_limit piece) judgment ↔ IsJudgment question piece judgment }
 {}
 
-/// The pieces of the texts of traces one after another, as `log --trace` prints them, are these texts: the K-th line of a batch that
-/// isn't quiet is that of the K-th trace.
+/// Of the texts of traces one after another, as `log --trace` prints them, the K-th line of a batch that isn't quiet is that of the
+/// K-th trace.
 pub fn printed_traces()
-    ensures pieces { (traces : List TraceValue) (pieces : List (List ℕ)) → ArePieces (flat_map trace_text traces) pieces ↔ (pieces ≡ map trace_text traces) }
-    ensures texts { (printing : BatchPrinting) (name : Option (List ℕ)) (traces : List TraceValue) (text notes : List ℕ) (verdict : BatchVerdict) → IsBatch printing (known_texts ((name, flat_map trace_text traces) ∷ [])) text notes verdict → (judgments : List Judgment) × AreJudgments (asked printing) (map trace_text traces) judgments × (text ≡ head_text printing ++ (pieces_text (under_name printing name) 1 (map trace_text traces) judgments ++ last_text printing (last_line printing judgments))) }
+    ensures { (printing : BatchPrinting) (name : Option (List ℕ)) (traces : List TraceValue) (text notes : List ℕ) (verdict : Answer) → IsBatch printing (known_texts ((name, flat_map trace_text traces) ∷ [])) text notes verdict → (judgments : List Judgment) × AreJudgments (asked printing) (map trace_text traces) judgments × (text ≡ head_text printing ++ (pieces_text (under_name printing name) 1 (map trace_text traces) judgments ++ last_text printing (last_line printing judgments))) }
 {}

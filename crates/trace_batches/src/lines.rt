@@ -10,8 +10,7 @@ use crate::judgments::Judgment;
 use crate::suites::{JUNIT_HEAD, junit_line};
 use std::alloc::Global;
 use std::fmt::Write;
-use trace_judging::render_refusal;
-use trace_reports::verdict_line;
+use trace_reports::{render_refusal, verdict_line};
 use tso_ops::OutOfMemory;
 use tso_text::TextFault;
 

@@ -3,26 +3,11 @@ ghost use Rattle.std.specs.Prelude.{◌≡◌, ◌+◌, ◌∷◌, ◌++◌, [],
 ghost use Rattle.trace_batches.specs.BatchLines.{are_too_few};
 ghost use Rattle.trace_batches.specs.Batches.{Counts, batch_verdict, count_judged, kept_with};
 ghost use Rattle.trace_batches.specs.declared.judgments.Judgment.{Judgment};
-ghost use Rattle.trace_judging.specs.declared.faults.Fault.{Fault};
+ghost use Rattle.text_streams.specs.declared.faults.Fault.{Fault};
 
 use crate::judgments::Judgment;
-use trace_judging::Fault;
-
-/// What a batch says of its traces.
-#[derive(Clone, Copy, Debug, PartialEq, Eq)]
-pub enum BatchVerdict {
-    /// None of them is one of these: no violation was found, or all are consistent.
-    NoViolation,
-    /// One of them is undecided, or fewer were judged than have to be, and none is refused or a violation.
-    Undecided,
-    /// One of them is refused, and none is a violation.
-    Refused,
-    /// One of them is a violation.
-    Violation,
-    /// One of the texts couldn't be read.
-    Unread,
-}
-
+use text_streams::Fault;
+use trace_reports::Answer;
 /// How many traces were judged, and of how many of them each thing is said.
 #[derive(Clone, Copy, Debug)]
 pub(crate) struct Tally {
@@ -89,19 +74,19 @@ impl Tally {
 
     /// Violation where a judgment says so, else Refused or Undecided where one says that, else Undecided where fewer were
     /// judged than have to be.
-    pub(crate) fn verdict(&self, required: Option<u64>) -> BatchVerdict
+    pub(crate) fn verdict(&self, required: Option<u64>) -> Answer
         ensures { (judgments : List Judgment) → Counts self.now judgments → result ≡ batch_verdict required judgments }
     {
         if self.violations > 0 {
-            BatchVerdict::Violation
+            Answer::Violation
         } else if self.refused > 0 {
-            BatchVerdict::Refused
+            Answer::Refused
         } else if self.undecided > 0 {
-            BatchVerdict::Undecided
+            Answer::Undecided
         } else if are_too_few(required, self.judged()) {
-            BatchVerdict::Undecided
+            Answer::Undecided
         } else {
-            BatchVerdict::NoViolation
+            Answer::Clear
         }
     }
 }

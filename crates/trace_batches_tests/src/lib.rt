@@ -1,5 +1,4 @@
-//! Tests of `trace_batches`, `outcome_reports`, `trace_reduction`, `log_reports`, `trace_decisions`, `log_search`,
-//! `trace_explanation`, `trace_pictures` and the crates `decision_..`, by their public calls.
+//! Tests of `trace_batches`, `trace_streams` and `outcome_reports`, by their public calls.
 #![tactic(auto)]
 
 #[cfg(test)]

@@ -1,5 +1,3 @@
-//! Batches, reductions and what logs have, and explanations: what no text of a trace shows, and what shares libraries.
+//! What batches and outcomes write, and readers and writers that fail.
 
 mod batches;
-mod explanations;
-mod reductions;

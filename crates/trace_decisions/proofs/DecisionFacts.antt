@@ -6,19 +6,19 @@ use Rattle.tso_ops.specs.Limits.{IsTrace}
 use Rattle.tso_ops.proofs.NumberFacts.{own_values}
 use Rattle.tso_text.specs.declared.faults.Why.{Why}
 use Rattle.tso_text.specs.Texts.{SpellsTrace}
+use Rattle.trace_streams.specs.Limits.{trace_read_limit}
 use Rattle.tso_text.proofs.TextLaws.{trace_laws}
 use Rattle.tso_model.proofs.EdgesForward.{all_written}
 use Rattle.tso_evidence.specs.declared.evidence.Evidence.{Evidence}
 use Rattle.tso_evidence.specs.declared.evidence.Evidence.TheVariants.{Unwritten, Order, Refutation}
 use Rattle.refutation_check.proofs.TreeFacts.{not_consistent}
-use Rattle.trace_judging.specs.Limits.{trace_read_limit}
-use Rattle.trace_judging.proofs.InputFacts.{refusal_of_prefix, spells_of_prefix}
+use Rattle.trace_streams.proofs.InputFacts.{refusal_of_prefix, spells_of_prefix}
 use Rattle.trace_judging.proofs.ReaderFacts.{same_of_prefix}
 use Rattle.trace_reports.specs.Renderings.{SaidOfRefusal}
 use Rattle.trace_reports.specs.Reports.{reported}
-use Rattle.trace_reports.proofs.ReadingFacts.{reads_as}
-use Rattle.trace_decisions.specs.declared.answers.Answer.{Answer}
-use Rattle.trace_decisions.specs.declared.answers.Answer.TheVariants.{Refused}
+use Rattle.text_streams.proofs.ReadingFacts.{reads_as}
+use Rattle.trace_reports.specs.declared.answers.Answer.{Answer}
+use Rattle.trace_reports.specs.declared.answers.Answer.TheVariants.{Refused}
 use Rattle.trace_decisions.specs.declared.decisions.Decision.{Decision}
 use Rattle.trace_decisions.specs.declared.decisions.Decision.TheVariants.{Decided, Undecided}
 use Rattle.trace_decisions.specs.Decisions.{HoldsFor, IsDecision, Says, Tells}

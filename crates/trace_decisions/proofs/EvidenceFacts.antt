@@ -5,15 +5,16 @@ use Rattle.tso_ops.specs.Values.{TraceValue}
 use Rattle.tso_ops.specs.Limits.{IsTrace}
 use Rattle.tso_text.specs.declared.faults.Why.{Why}
 use Rattle.tso_text.specs.Texts.{SpellsTrace}
+use Rattle.trace_streams.specs.Limits.{trace_read_limit}
 use Rattle.tso_text.specs.Refusals.{IsTraceRefusal}
-use Rattle.trace_judging.specs.Limits.{certificate_byte_limit, certificate_read_limit, trace_read_limit}
+use Rattle.trace_judging.specs.Limits.{certificate_byte_limit, certificate_read_limit}
 use Rattle.trace_judging.proofs.CheckFacts.{take_short}
-use Rattle.trace_judging.proofs.InputFacts.{refusal_of_prefix, spells_of_prefix}
-use Rattle.trace_reports.specs.Readings.{ReadsAs}
+use Rattle.trace_streams.proofs.InputFacts.{refusal_of_prefix, spells_of_prefix}
+use Rattle.text_streams.specs.Readings.{ReadsAs}
 use Rattle.trace_reports.specs.RefusalLines.{refusal_text}
-use Rattle.trace_reports.proofs.ReadingFacts.{reads_any, reads_as, reads_more}
-use Rattle.trace_decisions.specs.declared.answers.Answer.{Answer}
-use Rattle.trace_decisions.specs.declared.answers.Answer.TheVariants.{Refused}
+use Rattle.text_streams.proofs.ReadingFacts.{reads_any, reads_as, reads_more}
+use Rattle.trace_reports.specs.declared.answers.Answer.{Answer}
+use Rattle.trace_reports.specs.declared.answers.Answer.TheVariants.{Refused}
 use Rattle.trace_decisions.specs.DecisionTexts.{AnswerSays}
 use Rattle.trace_decisions.specs.EvidenceReports.{IsEvidenceReport, IsEvidenceReportOfReader, IsVerification, IsVerificationOfReaders}
 use Rattle.trace_decisions.proofs.DecisionFacts.{answer_says, says}

@@ -12,9 +12,9 @@ use Rattle.tso_evidence.specs.declared.evidence.Evidence.TheVariants.{Unwritten,
 use Rattle.tso_evidence.specs.Printed.{evidence_text}
 use Rattle.trace_reports.specs.Renderings.{SaidOfRefusal}
 use Rattle.trace_reports.specs.Violations.{IsViolation}
-use Rattle.trace_reports.specs.Readings.{ReadsAs}
-use Rattle.trace_decisions.specs.declared.answers.Answer.{Answer}
-use Rattle.trace_decisions.specs.declared.answers.Answer.TheVariants.{Consistent, Violation, Undecided as NotDecided, Refused}
+use Rattle.text_streams.specs.Readings.{ReadsAs}
+use Rattle.trace_reports.specs.declared.answers.Answer.{Answer}
+use Rattle.trace_reports.specs.declared.answers.Answer.TheVariants.{Clear, Violation, Undecided as NotDecided, Refused, Unread}
 use Rattle.trace_decisions.specs.declared.decisions.Decision.{Decision}
 use Rattle.trace_decisions.specs.declared.decisions.Decision.TheVariants.{Decided, Undecided}
 use Rattle.trace_decisions.specs.Decisions.{IsDecision}
@@ -22,7 +22,7 @@ use Rattle.trace_decisions.specs.Decisions.{IsDecision}
 -- what evidence that holds says of its trace
 abbrev pub answer_by : Evidence → Answer
 answer_by (Unwritten n) = Violation
-answer_by (Order order) = Consistent
+answer_by (Order order) = Clear
 answer_by (Refutation lines) = Violation
 
 -- what a decision says
@@ -32,10 +32,11 @@ answer_of (Undecided steps) = NotDecided
 
 -- what an answer says of a trace
 abbrev pub AnswerSays : TraceValue → Answer → Type 0
-AnswerSays t Consistent = IsConsistent t
+AnswerSays t Clear = IsConsistent t
 AnswerSays t Violation = IsConsistent t → ⊥
 AnswerSays t NotDecided = IsViolation t → ⊥
 AnswerSays t Refused = Unit {0}
+AnswerSays t Unread = Unit {0}
 
 -- the line that says whether there is an order
 abbrev pub answer_line : Evidence → List ℕ

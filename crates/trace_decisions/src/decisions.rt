@@ -6,18 +6,19 @@ ghost use Rattle.tso_model.specs.Certs.{Holds};
 ghost use Rattle.tso_evidence.specs.Certificates.{certificate_lines};
 ghost use Rattle.refutation_check.specs.Refutations.{RefutationHolds};
 ghost use Rattle.trace_reports.specs.Violations.{IsViolation};
-ghost use Rattle.trace_judging.specs.declared.faults.Fault.{Fault};
+ghost use Rattle.text_streams.specs.declared.faults.Fault.{Fault};
 ghost use Rattle.trace_decisions.specs.Decisions.{HoldsFor, IsDecision, Tells};
 
 use crate::search::{Next, Search};
 use order_check::check_order;
 use refutation_check::check_refutation;
-use round_pool::{OpenPoolGate, Ranked, rounds};
+use round_pool::Ranked;
 use search_memory::Memory;
 use std::alloc::Global;
 use std::sync::Wait;
 use std::thread::Threads;
-use trace_judging::{Fault, build_cert, least_unwritten};
+use text_streams::Fault;
+use trace_judging::{build_cert, least_unwritten, rank_edges};
 use tso_cert::{CertStep, Certificate, NumList, Reason};
 use tso_evidence::{Evidence, LineList, RefutationLine};
 use tso_ops::{OutOfMemory, Trace};
@@ -74,7 +75,7 @@ fn found<H: Threads + Wait>(
     if let Some(load) = least_unwritten(trace) {
         return Ok(Decision::Decided(Evidence::Unwritten(load as u64)));
     }
-    let ranked = rounds(rt, alloc, trace, workers, &OpenPoolGate)?;
+    let ranked = rank_edges(rt, alloc, trace, workers, 0)?;
     match build_cert(alloc, trace, &ranked)? {
         Some(certificate) => Ok(Decision::Decided(as_evidence(alloc, trace, &certificate)?)),
         None => Ok(by_search(alloc, trace, &ranked, effort)?),

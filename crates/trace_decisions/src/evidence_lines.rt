@@ -3,11 +3,11 @@ ghost use Rattle.std.specs.Prelude.{◌≡◌, ◌++◌, IfOk, codes, string_byt
 ghost use Rattle.tso_ops.specs.Limits.{IsTrace};
 ghost use Rattle.trace_decisions.specs.EvidenceReports.{IsEvidenceLine, IsEvidenceReport, holds_text, order_fault_text, refutation_fault_text, unread_text};
 
-use crate::answers::Answer;
 use crate::texts::{Said, answer_by};
 use order_check::{OrderFault, check_order};
 use refutation_check::{RefutationFault, check_refutation};
 use std::alloc::Global;
+use trace_reports::Answer;
 use tso_evidence::{Evidence, EvidenceFault, RefutationLine, TextFault, read_evidence};
 use tso_ops::{OutOfMemory, Trace};
 
@@ -63,7 +63,7 @@ fn line_on_order(alloc: Global, trace: &Trace, order: &[u64]) -> Result<Said, Ou
 {
     match check_order(alloc, trace, order)? {
         Ok(()) => Ok(Said {
-            answer: Answer::Consistent,
+            answer: Answer::Clear,
             text: String::from_str(alloc, "ORDER HOLDS\n")?,
         }),
         Err(fault) => Ok(Said {

@@ -4,13 +4,11 @@
 //! `README.md` says what is proved.
 #![tactic(auto)]
 
-pub use answers::Answer;
 pub use decisions::{Decision, copy_step, decide};
 pub use renderings::{AsDecision, DecisionRendering, render_decision_head};
 pub use texts::{DecisionLimits, Said, decide_input, decide_text};
 pub use verifying::verify_texts;
 
-mod answers;
 mod decisions;
 mod evidence_lines;
 pub mod laws;

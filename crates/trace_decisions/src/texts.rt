@@ -4,21 +4,21 @@ ghost use Rattle.round_pool.specs.Workers.{worker_limit};
 ghost use Rattle.tso_ops.specs.Values.{TraceValue};
 ghost use Rattle.tso_text.specs.Refusals.{IsTraceRefusal};
 ghost use Rattle.tso_text.specs.Texts.{SpellsTrace};
+ghost use Rattle.trace_streams.specs.Limits.{trace_read_limit};
 ghost use Rattle.tso_text.specs.declared.faults.Why.{Why};
-ghost use Rattle.trace_judging.specs.Limits.{trace_read_limit};
-ghost use Rattle.trace_judging.specs.Streams.{LosesPrefix};
-ghost use Rattle.trace_judging.specs.WrittenReports.{LeavesAtFault, WritesWhole};
-ghost use Rattle.trace_judging.specs.declared.faults.Fault.{Fault};
+ghost use Rattle.text_streams.specs.Streams.{LosesPrefix};
+ghost use Rattle.text_streams.specs.WrittenTexts.{LeavesAtFault, WritesWhole};
+ghost use Rattle.text_streams.specs.declared.faults.Fault.{Fault};
 ghost use Rattle.trace_decisions.specs.DecisionTexts.{AnswerSays, IsDecisionOf, IsDecisionOfReader, IsDecisionText, IsRefusalText, answer_by, answer_of};
 
-use crate::answers::Answer;
 use crate::decisions::{Decision, decide};
 use crate::renderings::DecisionRendering;
 use std::alloc::Global;
 use std::io::{Read, Write};
 use std::sync::Wait;
 use std::thread::Threads;
-use trace_judging::{Fault, read_all, write_text};
+use text_streams::{Fault, read_all, write_text};
+use trace_reports::Answer;
 use tso_evidence::Evidence;
 use tso_ops::Trace;
 use tso_text::{MAX_TEXT_BYTES, TextFault, Why, read_trace};
@@ -149,7 +149,7 @@ pub(crate) fn answer_by(evidence: &Evidence) -> Answer
     ensures { result ≡ answer_by evidence.now }
 {
     match evidence {
-        Evidence::Order(_) => Answer::Consistent,
+        Evidence::Order(_) => Answer::Clear,
         Evidence::Unwritten(_) | Evidence::Refutation(_) => Answer::Violation,
     }
 }

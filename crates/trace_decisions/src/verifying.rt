@@ -3,20 +3,21 @@ ghost use Rattle.std.specs.Prelude.{◌≡◌, ◌≢◌, ◌⊎◌, string_byte
 ghost use Rattle.tso_ops.specs.Values.{TraceValue};
 ghost use Rattle.tso_text.specs.Refusals.{IsRefusedTrace};
 ghost use Rattle.tso_text.specs.Texts.{SpellsTrace};
-ghost use Rattle.trace_judging.specs.declared.faults.Fault.{Fault};
-ghost use Rattle.trace_judging.specs.Limits.{certificate_read_limit, trace_read_limit};
-ghost use Rattle.trace_judging.specs.Streams.{LosesPrefix};
-ghost use Rattle.trace_judging.specs.WrittenReports.{LeavesAtFault, WritesWhole};
+ghost use Rattle.trace_streams.specs.Limits.{trace_read_limit};
+ghost use Rattle.text_streams.specs.declared.faults.Fault.{Fault};
+ghost use Rattle.trace_judging.specs.Limits.{certificate_read_limit};
+ghost use Rattle.text_streams.specs.Streams.{LosesPrefix};
+ghost use Rattle.text_streams.specs.WrittenTexts.{LeavesAtFault, WritesWhole};
 ghost use Rattle.trace_decisions.specs.DecisionTexts.{AnswerSays};
 ghost use Rattle.trace_decisions.specs.EvidenceReports.{IsEvidenceReportOfReader, IsVerificationOfReaders};
 
-use crate::answers::Answer;
 use crate::evidence_lines::render_evidence;
 use crate::texts::Said;
 use std::alloc::Global;
 use std::io::{Read, Write};
-use trace_judging::{Fault, read_all, read_cert_text, write_text};
-use trace_reports::render_refusal;
+use text_streams::{Fault, read_all, write_text};
+use trace_judging::read_cert_text;
+use trace_reports::{Answer, render_refusal};
 use tso_ops::Trace;
 use tso_text::{MAX_TEXT_BYTES, read_trace};
 

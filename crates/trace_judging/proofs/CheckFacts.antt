@@ -7,6 +7,7 @@ use Rattle.tso_ops.specs.Values.{TraceValue}
 use Rattle.tso_ops.specs.Limits.{IsTrace}
 use Rattle.tso_text.specs.declared.faults.Why.{Why}
 use Rattle.tso_text.specs.Texts.{SpellsTrace}
+use Rattle.trace_streams.specs.Limits.{trace_read_limit}
 use Rattle.tso_text.specs.Refusals.{IsRefusedTrace, IsTraceRefusal}
 use Rattle.tso_text.proofs.TextLaws.{trace_laws}
 use Rattle.tso_cert.proofs.SpellingFacts.{not_both as cert_not_both, one_refusal as one_unread, one_value, spelled_or_refused as spelled_or_unread}
@@ -23,11 +24,11 @@ use Rattle.trace_reports.specs.RefusalLines.{refusal_text}
 use Rattle.trace_reports.specs.Reports.{refusal_shown}
 use Rattle.trace_reports.specs.Verdicts.{is_violation}
 use Rattle.trace_judging.specs.Checks.{holds_text, fails_text, unread_text, SpellsHolding, SpellHolding, IsFailureReport, IsUnreadReport, IsCertReport, IsCertReportOfReader, IsCheckReport}
-use Rattle.trace_judging.specs.Limits.{certificate_byte_limit, certificate_read_limit, trace_read_limit}
+use Rattle.trace_judging.specs.Limits.{certificate_byte_limit, certificate_read_limit}
 use Rattle.trace_judging.specs.WrittenReports.{IsCheckReportOfReaders}
-use Rattle.trace_reports.specs.Readings.{ReadsAs}
-use Rattle.trace_judging.proofs.InputFacts.{refusal_of_prefix, spells_of_prefix}
-use Rattle.trace_reports.proofs.ReadingFacts.{reads_any, reads_as, reads_more}
+use Rattle.text_streams.specs.Readings.{ReadsAs}
+use Rattle.trace_streams.proofs.InputFacts.{refusal_of_prefix, spells_of_prefix}
+use Rattle.text_streams.proofs.ReadingFacts.{reads_any, reads_as, reads_more}
 use Rattle.trace_reports.proofs.RenderingFacts.{one_of_refusal}
 
 -- ---- what is read

@@ -1,8 +1,6 @@
 pub mod CheckFacts
 pub mod CollectFacts
-pub mod InputFacts
 pub mod Neighbours
 pub mod ReaderFacts
 pub mod ReportFacts
 pub mod RoundSteps
-pub mod StreamFacts

@@ -6,8 +6,8 @@ use Rattle.std.specs.Prelude.{Option}
 use Rattle.std.specs.Io.KnownBytes.{Appends}
 use Rattle.tso_ops.specs.Values.{TraceValue}
 use Rattle.tso_text.specs.declared.faults.Why.{Why}
-use Rattle.tso_text.specs.Texts.{text_byte_limit}
-use Rattle.tso_text.specs.Texts.{SpellsTrace}
+use Rattle.tso_text.specs.Texts.{text_byte_limit, SpellsTrace}
+use Rattle.trace_streams.specs.Limits.{trace_read_limit}
 use Rattle.tso_text.specs.Refusals.{IsTraceRefusal}
 use Rattle.tso_model.specs.Axioms.{IsConsistent}
 use Rattle.trace_reports.specs.declared.verdicts.Verdict.{Verdict}
@@ -15,13 +15,13 @@ use Rattle.trace_reports.specs.declared.verdicts.Verdict.TheVariants.{Violation}
 use Rattle.trace_reports.specs.Renderings.{IsTextOfInput, IsTextOfReader, SaidOfRefusal, SaidOfTrace}
 use Rattle.trace_reports.specs.Reports.{refusal_shown, reported, IsReport, ShowsViolationOf, SpellsViolation}
 use Rattle.trace_reports.proofs.RenderingFacts.{no_order, shows_violation, violation_exactly}
-use Rattle.trace_judging.specs.declared.faults.Fault.{Fault}
-use Rattle.trace_judging.specs.declared.faults.Fault.TheVariants.{Write}
-use Rattle.trace_judging.specs.Limits.{trace_read_limit}
-use Rattle.trace_judging.specs.Streams.{AppendsPrefix}
-use Rattle.trace_judging.specs.WrittenReports.{IsReportOfReader, LeavesAtFault, WritesWhole}
-use Rattle.trace_reports.proofs.ReadingFacts.{reads_as}
-use Rattle.trace_judging.proofs.InputFacts.{refusal_of_prefix, refused_whole, spells_of_prefix}
+use Rattle.text_streams.specs.declared.faults.Fault.{Fault}
+use Rattle.text_streams.specs.declared.faults.Fault.TheVariants.{Write}
+use Rattle.text_streams.specs.Streams.{AppendsPrefix}
+use Rattle.trace_judging.specs.WrittenReports.{IsReportOfReader}
+use Rattle.text_streams.specs.WrittenTexts.{LeavesAtFault, WritesWhole}
+use Rattle.text_streams.proofs.ReadingFacts.{reads_as}
+use Rattle.trace_streams.proofs.InputFacts.{refusal_of_prefix, refused_whole, spells_of_prefix}
 
 -- ---- what is read of a long input
 
@@ -69,11 +69,3 @@ pub shows_violation_written : (remaining old new : Option (List ℕ)) (outcome :
 shows_violation_written None old new (Ok v) writes = λ e. tt
 shows_violation_written (Some all) old new (Ok v) writes = λ e. (writes.0, shows_violation all writes.0 v writes.1.of_all e, writes.2)
 shows_violation_written remaining old new (Err fault) writes = tt
-
--- ---- what is left by a fault
-
--- that of a writer leaves a prefix of the text
-pub leaves_prefix : {X : Type 0} (is_text : List ℕ → X → Type 0) (old new : Option (List ℕ)) (text written : List ℕ) (v : X) (fault : Fault) → is_text text v → written ≡ text →
-    AppendsPrefix old new written → fault ≡ Write → LeavesAtFault is_text old new fault
-leaves_prefix is_text old new text written v fault is same prefix e =
-    subst (LeavesAtFault is_text old new) (sym e) (v, text, is, subst (AppendsPrefix old new) same prefix)

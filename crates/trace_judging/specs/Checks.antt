@@ -14,7 +14,7 @@ use Rattle.cert_check.specs.Refusals.{IsCertRefusal}
 use Rattle.trace_reports.specs.declared.verdicts.Verdict.{Verdict}
 use Rattle.trace_reports.specs.declared.verdicts.Verdict.TheVariants.{Violation, Refused}
 use Rattle.trace_judging.specs.Limits.{certificate_byte_limit}
-use Rattle.trace_reports.specs.Readings.{ReadsAs}
+use Rattle.text_streams.specs.Readings.{ReadsAs}
 use Rattle.trace_reports.specs.Renderings.{IsTextOfRefusal}
 use Rattle.trace_reports.specs.Reports.{refusal_shown}
 

@@ -1,5 +1,4 @@
 pub mod Checks
 pub mod Internal
 pub mod Limits
-pub mod Streams
 pub mod WrittenReports

@@ -3,20 +3,20 @@ ghost use Rattle.std.specs.Prelude.{◌≡◌, ◌≢◌, ◌⊎◌, ◌↔◌, 
 ghost use Rattle.tso_ops.specs.Values.{TraceValue};
 ghost use Rattle.tso_text.specs.Refusals.{IsRefusedTrace};
 ghost use Rattle.tso_text.specs.Texts.{SpellsTrace};
+ghost use Rattle.trace_streams.specs.Limits.{trace_read_limit};
 ghost use Rattle.tso_model.specs.Axioms.{IsConsistent};
-ghost use Rattle.trace_judging.specs.declared.faults.Fault.{Fault};
+ghost use Rattle.text_streams.specs.declared.faults.Fault.{Fault};
 ghost use Rattle.trace_reports.specs.declared.verdicts.Verdict.{Verdict};
 ghost use Rattle.trace_judging.specs.Checks.{IsCertReportOfReader, SpellHolding};
-ghost use Rattle.trace_judging.specs.Limits.{certificate_byte_limit, certificate_read_limit, trace_read_limit};
-ghost use Rattle.trace_judging.specs.Streams.{LosesPrefix};
-ghost use Rattle.trace_judging.specs.WrittenReports.{IsCheckReportOfReaders, LeavesAtFault, WritesWhole};
+ghost use Rattle.trace_judging.specs.Limits.{certificate_byte_limit, certificate_read_limit};
+ghost use Rattle.text_streams.specs.Streams.{LosesPrefix};
+ghost use Rattle.trace_judging.specs.WrittenReports.{IsCheckReportOfReaders};
+ghost use Rattle.text_streams.specs.WrittenTexts.{LeavesAtFault, WritesWhole};
 
 use crate::cert_rendering::render_check;
-use crate::faults::Fault;
-use crate::streams::reading::read_all;
-use crate::streams::writing::write_text;
 use std::alloc::Global;
 use std::io::{Read, Write};
+use text_streams::{Fault, read_all, write_text};
 use trace_reports::{Report, Verdict, render_refusal};
 use tso_ops::Trace;
 use tso_text::{MAX_TEXT_BYTES, read_trace};

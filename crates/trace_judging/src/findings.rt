@@ -6,16 +6,16 @@ ghost use Rattle.tso_ops.specs.Events.{IsUnwritten};
 ghost use Rattle.tso_cert.specs.declared.steps.Certificate.TheVariants.{Unwritten};
 ghost use Rattle.tso_model.specs.Certs.{IsCertificateOf};
 ghost use Rattle.tso_model.specs.Ranks.{RankSet};
-ghost use Rattle.trace_judging.specs.declared.faults.Fault.{Fault};
+ghost use Rattle.text_streams.specs.declared.faults.Fault.{Fault};
 ghost use Rattle.trace_reports.specs.Findings.{IsFinding};
 
 use crate::certificates::build_cert;
-use crate::faults::Fault;
+use crate::rankings::rank_edges;
 use chain_rules::{RoundForm, count_rounds};
-use round_pool::{OpenPoolGate, rounds_after_acyclic};
 use std::alloc::Global;
 use std::sync::Wait;
 use std::thread::Threads;
+use text_streams::Fault;
 use trace_reports::Finding;
 use tso_cert::Certificate;
 use tso_ops::Trace;
@@ -91,7 +91,7 @@ fn find_by_ranks<H: Threads + Wait>(
     ensures found { IfOk result (IsFinding trace.now) }
     ensures fault { IfErr result (λ fault. (fault ≡ Fault.OutOfMemory) ⊎ (fault ≡ Fault.NoThread)) }
 {
-    let ranked = rounds_after_acyclic(rt, alloc, trace, workers, &OpenPoolGate, acyclic)?;
+    let ranked = rank_edges(rt, alloc, trace, workers, acyclic)?;
     Ok(Finding {
         rounds: ranked.rounds(),
         certificate: build_cert(alloc, trace, &ranked)?,

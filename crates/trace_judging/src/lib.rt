@@ -9,21 +9,15 @@
 pub use certificates::build_cert;
 pub use chain_rules::RoundForm;
 pub use checking::{MAX_CERTIFICATE_BYTES, check_texts, read_cert_text};
-pub use faults::Fault;
 pub use findings::{find_violation, find_violation_by, least_unwritten};
 pub use judging::{judge, judge_text, judge_trace, judge_with};
+pub use rankings::rank_edges;
 pub use round_pool::MAX_WORKERS;
-pub use streams::reading::read_all;
-pub use streams::writing::write_text;
-pub use trace_reports::{
-    AsReport, Finding, Rendering, Report, Verdict, render, render_head, render_refusal,
-};
 
 mod cert_rendering;
 mod certificates;
 mod checking;
-mod faults;
 mod findings;
 mod judging;
 pub mod laws;
-mod streams;
+mod rankings;

@@ -7,6 +7,7 @@ use Rattle.tso_ops.specs.Events.{IsUnwritten}
 use Rattle.tso_ops.proofs.NumberFacts.{own_values}
 use Rattle.tso_text.specs.Printed.{trace_text}
 use Rattle.tso_text.specs.Texts.{SpellsTrace}
+use Rattle.trace_streams.specs.Limits.{trace_read_limit}
 use Rattle.tso_text.proofs.TextLaws.{trace_laws}
 use Rattle.tso_cert.specs.declared.steps.CertStep.{CertStep}
 use Rattle.tso_cert.specs.declared.steps.Certificate.{Certificate}
@@ -21,9 +22,8 @@ use Rattle.trace_reports.specs.declared.verdicts.Verdict.TheVariants.{NoViolatio
 use Rattle.trace_reports.specs.Findings.{IsFinding}
 use Rattle.trace_reports.specs.Reports.{SpellsViolation}
 use Rattle.trace_reports.specs.Violations.{IsViolation}
-use Rattle.trace_reports.proofs.ReadingFacts.{reads_as}
-use Rattle.trace_judging.specs.Limits.{trace_read_limit}
-use Rattle.trace_judging.proofs.InputFacts.{refusal_of_prefix, spells_of_prefix}
+use Rattle.text_streams.proofs.ReadingFacts.{reads_as}
+use Rattle.trace_streams.proofs.InputFacts.{refusal_of_prefix, spells_of_prefix}
 use Rattle.log_selections.specs.Selections.{IsSelectionBy}
 use Rattle.log_selections.proofs.SelectionOrders.{selection_violation}
 use Rattle.trace_reduction.specs.declared.reductions.Reduction.{Reduction}

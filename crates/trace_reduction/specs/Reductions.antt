@@ -9,7 +9,7 @@ use Rattle.log_selections.specs.Selections.{IsSelection}
 use Rattle.log_selections.specs.Unwritten.{lone_load}
 use Rattle.trace_reports.specs.declared.verdicts.Verdict.{Verdict}
 use Rattle.trace_reports.specs.declared.verdicts.Verdict.TheVariants.{NoViolation, Violation, Refused}
-use Rattle.trace_reports.specs.Readings.{ReadsAs}
+use Rattle.text_streams.specs.Readings.{ReadsAs}
 use Rattle.trace_reports.specs.Renderings.{IsTextOfRefusal}
 use Rattle.trace_reports.specs.Reports.{refusal_shown}
 use Rattle.trace_reports.specs.Verdicts.{verdict_line}

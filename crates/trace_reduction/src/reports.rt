@@ -3,12 +3,12 @@ ghost use Rattle.std.specs.Prelude.{◌≡◌, ◌≢◌, ◌⊎◌, ◌↔◌, 
 ghost use Rattle.std.specs.Io.KnownBytes.{Keeps};
 ghost use Rattle.tso_ops.specs.Values.{TraceValue};
 ghost use Rattle.tso_text.specs.Texts.{SpellsTrace};
+ghost use Rattle.trace_streams.specs.Limits.{trace_read_limit};
 ghost use Rattle.tso_text.specs.declared.faults.Why.{Why};
 ghost use Rattle.tso_model.specs.Axioms.{IsConsistent};
-ghost use Rattle.trace_judging.specs.Limits.{trace_read_limit};
-ghost use Rattle.trace_judging.specs.Streams.{AppendsPrefix, LosesPrefix};
-ghost use Rattle.trace_judging.specs.WrittenReports.{LeavesAtFault, WritesWhole};
-ghost use Rattle.trace_judging.specs.declared.faults.Fault.{Fault};
+ghost use Rattle.text_streams.specs.Streams.{AppendsPrefix, LosesPrefix};
+ghost use Rattle.text_streams.specs.WrittenTexts.{LeavesAtFault, WritesWhole};
+ghost use Rattle.text_streams.specs.declared.faults.Fault.{Fault};
 ghost use Rattle.trace_reports.specs.RefusalLines.{refusal_text};
 ghost use Rattle.trace_reports.specs.Reports.{SpellsViolation};
 ghost use Rattle.trace_reports.specs.declared.verdicts.Verdict.{Verdict};
@@ -19,7 +19,8 @@ use std::alloc::Global;
 use std::io::{Read, Write};
 use std::sync::Wait;
 use std::thread::Threads;
-use trace_judging::{Fault, Verdict, read_all, render_refusal, write_text};
+use text_streams::{Fault, read_all, write_text};
+use trace_reports::{Verdict, render_refusal};
 use tso_ops::OutOfMemory;
 use tso_text::{MAX_TEXT_BYTES, TextFault, read_trace};
 

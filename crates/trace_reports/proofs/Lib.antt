@@ -1,2 +1,1 @@
-pub mod ReadingFacts
 pub mod RenderingFacts

@@ -1,7 +1,7 @@
 pub mod Findings
-pub mod Readings
 pub mod RefusalLines
 pub mod Renderings
 pub mod Reports
+pub mod Statuses
 pub mod Verdicts
 pub mod Violations

@@ -9,7 +9,7 @@ use Rattle.trace_reports.specs.declared.findings.Finding.{Finding}
 use Rattle.trace_reports.specs.declared.verdicts.Verdict.{Verdict}
 use Rattle.trace_reports.specs.declared.verdicts.Verdict.TheVariants.{NoViolation, Violation, Refused}
 use Rattle.trace_reports.specs.Findings.{IsFinding}
-use Rattle.trace_reports.specs.Readings.{ReadsAs}
+use Rattle.text_streams.specs.Readings.{ReadsAs}
 
 -- what is said of a trace by what is found of it
 abbrev pub SaidOfTrace : Type 0

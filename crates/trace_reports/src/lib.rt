@@ -4,14 +4,18 @@
 //! reports. `render` gives the text and its verdict. `README.md` says what is proved.
 #![tactic(auto)]
 
+pub use answers::Answer;
 pub use findings::Finding;
 pub use refusal_lines::render_refusal;
 pub use renderings::{Rendering, Report, render, render_refused};
 pub use reports::{AsReport, render_head};
+pub use statuses::{DONE, FAULT, NOT_ALL_JUDGED, REFUSED, VIOLATION, status_of, status_of_answer};
 pub use verdicts::{Verdict, verdict_line};
 
+mod answers;
 mod findings;
 mod refusal_lines;
 mod renderings;
 mod reports;
+mod statuses;
 mod verdicts;

@@ -24,13 +24,13 @@ use Rattle.tso_report.specs.declared.campaigns.CampaignPrinting.{CampaignPrintin
 use Rattle.tso_report.specs.declared.campaigns.CampaignPrinting.TheVariants.{Lines, Traces}
 use Rattle.tso_report.specs.declared.campaigns.Execution.{Execution}
 use Rattle.tso_report.specs.declared.campaigns.Execution.TheVariants.{Threads, Replay}
-use Rattle.trace_judging.specs.declared.faults.Fault.{Fault}
-use Rattle.trace_judging.specs.declared.faults.Fault.TheVariants.{Read, Missing}
+use Rattle.text_streams.specs.declared.faults.Fault.{Fault}
+use Rattle.text_streams.specs.declared.faults.Fault.TheVariants.{Read, Missing}
 use Rattle.trace_reports.specs.declared.verdicts.Verdict.{Verdict}
 use Rattle.trace_reports.specs.declared.verdicts.Verdict.TheVariants.{NoViolation, Violation}
 use Rattle.trace_reports.specs.Reports.{IsTraceReport}
 use Rattle.trace_reports.specs.Verdicts.{verdict_line}
-use Rattle.trace_judging.specs.WrittenReports.{LeavesAtFault}
+use Rattle.text_streams.specs.WrittenTexts.{LeavesAtFault}
 
 -- ---- the program and the schedule of a seed
 

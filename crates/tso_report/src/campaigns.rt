@@ -5,7 +5,7 @@ ghost use Rattle.trace_judging.specs.Limits.{worker_limit};
 ghost use Rattle.tso_report.specs.Campaigns.{IsCampaign, LeavesCampaign, verdict_of};
 ghost use Rattle.tso_report.specs.Internal.Gathering.{AreUnitsFrom};
 ghost use Rattle.tso_report.specs.Limits.{seed_count_limit};
-ghost use Rattle.trace_judging.specs.WrittenReports.{WritesWhole};
+ghost use Rattle.text_streams.specs.WrittenTexts.{WritesWhole};
 
 use drawn_programs::Shape;
 use gathering::Gathered;
@@ -17,7 +17,7 @@ use std::io::Write;
 use std::marker::Brand;
 use std::sync::Wait;
 use std::thread::Threads;
-use trace_judging::{Fault, write_text};
+use text_streams::{Fault, write_text};
 use trace_reports::Verdict;
 use tso_ops::Order;
 use unit_core::MemoryUnit;

@@ -12,10 +12,13 @@ pub use campaigns::{
     CampaignPlan, CampaignPrinting, Execution, MAX_SEEDS, campaign, campaign_over,
 };
 pub use record_judging::{judge_recorded, report_of_record};
+pub use text_streams::{Fault, read_all, write_text};
 pub use trace_judging::{
-    AsReport, Fault, Finding, MAX_CERTIFICATE_BYTES, MAX_WORKERS, Rendering, Report, Verdict,
-    build_cert, check_texts, find_violation, judge, judge_text, judge_trace, judge_with, read_all,
-    render, render_head, render_refusal, write_text,
+    MAX_CERTIFICATE_BYTES, MAX_WORKERS, build_cert, check_texts, find_violation, judge, judge_text,
+    judge_trace, judge_with,
+};
+pub use trace_reports::{
+    AsReport, Finding, Rendering, Report, Verdict, render, render_head, render_refusal,
 };
 
 mod account_rendering;

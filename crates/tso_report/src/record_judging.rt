@@ -3,17 +3,18 @@ ghost use Rattle.std.specs.Prelude.{◌≡◌, ◌≢◌, ◌⊎◌, ◌↔◌, 
 ghost use Rattle.std.specs.Io.KnownBytes.{Appends};
 ghost use Rattle.trace_judging.specs.Limits.{worker_limit};
 ghost use Rattle.tso_model.specs.Axioms.{IsConsistent};
-ghost use Rattle.trace_judging.specs.declared.faults.Fault.{Fault};
+ghost use Rattle.text_streams.specs.declared.faults.Fault.{Fault};
 ghost use Rattle.trace_reports.specs.declared.verdicts.Verdict.{Verdict};
 ghost use Rattle.trace_reports.specs.Violations.{IsViolation};
 ghost use Rattle.trace_reports.specs.Reports.{IsTraceReport, ShowsNoViolationOf, ShowsViolationOf};
-ghost use Rattle.trace_judging.specs.WrittenReports.{LeavesAtFault, WritesWhole};
+ghost use Rattle.text_streams.specs.WrittenTexts.{LeavesAtFault, WritesWhole};
 
 use std::alloc::Global;
 use std::io::Write;
 use std::sync::Wait;
 use std::thread::Threads;
-use trace_judging::{Fault, judge_trace, write_text};
+use text_streams::{Fault, write_text};
+use trace_judging::judge_trace;
 use trace_reports::{AsReport, Report, Verdict};
 use unit_core::Recorded;
 

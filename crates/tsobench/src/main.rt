@@ -3,7 +3,8 @@
 //! `README.md` says how it is run, and `crates/request_serving/README.md` what is proved of it.
 #![tactic(auto)]
 
-use request_serving::{Diagnostics, drive, end_without_arguments};
+use request_serving::{drive, end_without_arguments};
+use request_texts::Diagnostics;
 use std::io::IsTerminal;
 use std::process::ExitCode;
 use std::rt::Env;

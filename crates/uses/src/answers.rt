@@ -1,16 +1,18 @@
 //! Of the crates that answer a question about a text or a stream.
 
-use log_reports::{LogForm, LogOptions, LogVerdict, report_log};
+use log_reports::{LogForm, LogOptions, report_log};
 use outcome_reports::{OutcomeForm, OutcomeOptions, count_seen, list_outcomes};
 use progress_meters::NoMeter;
 use std::alloc::{AllocGlobal, Global};
 use std::io::{Read, Write};
 use std::sync::Wait;
 use std::thread::Threads;
-use trace_batches::{Batch, BatchFormat, BatchMethod, BatchOptions, BatchPrinting, BatchVerdict};
-use trace_decisions::{Answer, AsDecision, DecisionLimits, decide_input};
-use trace_judging::{Fault, Verdict, judge};
+use text_streams::Fault;
+use trace_batches::{Batch, BatchFormat, BatchMethod, BatchOptions, BatchPrinting};
+use trace_decisions::{AsDecision, DecisionLimits, decide_input};
+use trace_judging::judge;
 use trace_reduction::reduce_trace;
+use trace_reports::{Answer, Verdict};
 use tso_report::judge_recorded;
 use unit_core::Recorded;
 
@@ -47,7 +49,7 @@ pub fn judge_many<H: Threads + Wait + Sync, R: Read, W: Write, E: Write>(
     reader: &mut R,
     writer: &mut W,
     errors: &mut E,
-) -> Result<BatchVerdict, Fault> {
+) -> Result<Answer, Fault> {
     let printing = BatchPrinting {
         method: BatchMethod::Judge,
         format: BatchFormat::Words,
@@ -71,7 +73,7 @@ pub fn report_a_log<H: Threads + Wait + AllocGlobal, R: Read, W: Write, E: Write
     reader: &mut R,
     writer: &mut W,
     errors: &mut E,
-) -> Result<LogVerdict, Fault> {
+) -> Result<Answer, Fault> {
     let options = LogOptions {
         most: 10,
         effort: 100,
@@ -100,7 +102,7 @@ pub fn list_the_states<P: Read, W: Write>(
     alloc: Global,
     programs: &mut P,
     writer: &mut W,
-) -> Result<BatchVerdict, Fault> {
+) -> Result<Answer, Fault> {
     let options = OutcomeOptions {
         limit: 1_000_000,
         form: OutcomeForm::States,
@@ -115,7 +117,7 @@ pub fn count_the_outcomes<P: Read, S: Read, W: Write>(
     programs: &mut P,
     stream: &mut S,
     writer: &mut W,
-) -> Result<BatchVerdict, Fault> {
+) -> Result<Answer, Fault> {
     let verdict = count_seen(alloc, programs, stream, writer, 1_000_000)?;
     Ok(verdict)
 }

@@ -4,10 +4,13 @@ use drawn_programs::{Shape, make_program};
 use log_text::{Log, read_log};
 use rand_core::Rng;
 use std::alloc::Global;
+use std::io::{Read, Write};
+use text_streams::{Fault, read_all, write_text};
+use trace_streams::PieceReader;
 use tso_cert::{Certificate, read_cert};
 use tso_evidence::{Evidence, read_evidence};
 use tso_ops::{OutOfMemory, Outcome, Program, Refused, Trace};
-use tso_text::{TextFault, read_trace};
+use tso_text::{MAX_TEXT_BYTES, TextFault, read_trace};
 
 /// `tso_ops`: the trace of these lists of operations, one for each processor, or its refusal.
 pub fn trace_of_lists(alloc: Global, lists: Vec<Vec<Outcome>>) -> Result<Trace, Refused<Outcome>> {
@@ -48,4 +51,24 @@ pub fn evidence_of_a_text(alloc: Global, text: &[u8]) -> Result<Evidence, tso_ev
 pub fn log_of_a_text(alloc: Global, text: &[u8]) -> Result<Log, TextFault> {
     let log = read_log(alloc, text, false)?;
     Ok(log)
+}
+
+/// `text_streams`: copies a text.
+pub fn copy_a_text<R: Read, W: Write>(
+    alloc: Global,
+    reader: &mut R,
+    writer: &mut W,
+) -> Result<(), Fault> {
+    let bytes = read_all(alloc, reader, MAX_TEXT_BYTES)?;
+    write_text(writer, &bytes)?;
+    Ok(())
+}
+
+/// `trace_streams`: the next trace of a stream, as it came.
+pub fn next_of_a_stream<R: Read>(
+    pieces: &mut PieceReader,
+    reader: &mut R,
+) -> Result<Option<Vec<u8>>, Fault> {
+    let piece = pieces.next(reader)?;
+    Ok(piece)
 }

@@ -6,7 +6,7 @@ use Rattle.tso_ops.specs.declared.ops.Outcome.{Outcome}
 use Rattle.tso_ops.specs.Settings.{SettingValue}
 use Rattle.tso_ops.specs.Values.{ProgramValue, TraceValue, program_of, rows, trace_of_lists}
 use Rattle.final_states.specs.FinalStates.{is_below}
-use Rattle.trace_batches.specs.Pieces.{ArePieces}
+use Rattle.trace_streams.specs.Pieces.{ArePieces}
 use Rattle.final_states.specs.FinalStates.{IsRunTrace}
 use Rattle.outcome_reports.specs.SeenTraces.{AreSightings, is_foreign, is_seen, is_unreached}
 use Rattle.outcome_reports.specs.declared.counts.SeenCounts.{SeenCounts}

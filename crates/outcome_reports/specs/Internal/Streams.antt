@@ -1,7 +1,7 @@
 -- How far the counting of a stream's pieces has come.
 use Rattle.std.specs.Prelude.{ℕ, List, length, Option}
 use Rattle.tso_ops.specs.Values.{ProgramValue, TraceValue}
-use Rattle.trace_batches.specs.PieceReading.{HasGiven, PieceReaderValue}
+use Rattle.trace_streams.specs.PieceReading.{HasGiven, PieceReaderValue}
 use Rattle.outcome_reports.specs.Internal.Counting.{CountsOf}
 use Rattle.outcome_reports.specs.SeenTraces.{AreSightings}
 use Rattle.outcome_reports.specs.declared.counts.SeenCounts.{SeenCounts}

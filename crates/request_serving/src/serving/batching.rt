@@ -4,19 +4,20 @@ ghost use Rattle.std.specs.Borrow.{Bor};
 ghost use Rattle.std.specs.Io.KnownBytes.{Appends, Consumes};
 ghost use Rattle.std.specs.List.{list_all};
 ghost use Rattle.trace_batches.specs.Batches.{BatchText, HasJudged, HasWritten, IsBatchFault, Judges, LeavesBatch, LeavesText, WritesBatch, head_text};
-ghost use Rattle.trace_judging.specs.Streams.{AppendsPrefix};
+ghost use Rattle.text_streams.specs.Streams.{AppendsPrefix};
 ghost use Rattle.request_serving.specs.Batches.{AreTextsOfBatch, IsNamedText, are_several, asked_format, asked_method, asked_printing, told_name};
-ghost use Rattle.request_serving.specs.OpenedFiles.{OpensFirst, OpensNext, name_in};
+ghost use Rattle.request_texts.specs.OpenedFiles.{OpensFirst, OpensNext, name_in};
 ghost use Rattle.request_serving.specs.Internal.Batching.{files_in, reads_one};
 
-use crate::files::{Surroundings, open};
 use command_line::{BatchFormat as AskedFormat, BatchPrinting as AskedPrinting, BatchRequest};
+use request_texts::{Surroundings, open};
 use std::alloc::Global;
 use std::io::{Read, Write};
 use std::sync::Wait;
 use std::thread::Threads;
-use trace_batches::{Batch, BatchFormat, BatchMethod, BatchOptions, BatchPrinting, BatchVerdict};
-use trace_judging::Fault;
+use text_streams::Fault;
+use trace_batches::{Batch, BatchFormat, BatchMethod, BatchOptions, BatchPrinting};
+use trace_reports::Answer;
 
 /// What stands for standard input in place of the name of a file.
 const STANDARD_INPUT: &str = "-";
@@ -45,7 +46,7 @@ pub(crate) fn batch_named<
     reader: &mut R,
     writer: &mut W,
     errors: &mut E,
-) -> Result<BatchVerdict, Fault>
+) -> Result<Answer, Fault>
     requires workers { 1 ≤ request.now.workers }
     requires input { reads_one (files_in request.now.texts.items) }
     ensures whole { let are_texts = AreTextsOfBatch (files_in request.now.texts.items) (R.remaining reader.old) (O.bytes files.old) in IfOk result (λ verdict. (texts : List BatchText) × are_texts texts × WritesBatch (asked_printing request.now.printing) texts (W.contents writer.old) (W.contents writer.new) (E.contents errors.old) (E.contents errors.new) verdict) }

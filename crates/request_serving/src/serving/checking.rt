@@ -2,21 +2,23 @@
 ghost use Rattle.std.specs.Prelude.{◌≡◌, ◌≢◌, ◌⊎◌, [], ◌∷◌, ◌++◌, IfOk, IfErr, IfSome, OnOk, true, false};
 ghost use Rattle.command_line.specs.Requests.{asked_of, files_of};
 ghost use Rattle.command_line.specs.declared.requests.Request.TheVariants.{Check};
-ghost use Rattle.trace_judging.specs.declared.faults.Fault.TheVariants.{NoThread};
+ghost use Rattle.text_streams.specs.declared.faults.Fault.TheVariants.{NoThread};
 ghost use Rattle.trace_judging.specs.Limits.{certificate_read_limit};
-ghost use Rattle.trace_judging.specs.Streams.{LosesPrefix};
-ghost use Rattle.trace_judging.specs.WrittenReports.{LeavesAtFault, WritesWhole};
+ghost use Rattle.text_streams.specs.Streams.{LosesPrefix};
+ghost use Rattle.text_streams.specs.WrittenTexts.{LeavesAtFault, WritesWhole};
 ghost use Rattle.request_serving.specs.Endings.{IsCheckOfNth};
-ghost use Rattle.request_serving.specs.NthTraces.{IsRefusedNth, TakesTrace};
-ghost use Rattle.request_serving.specs.OpenedFiles.{HasRefusedFirstText, OpensFirst, OpensNext, TakesInput, files_named, reads_input, text_bytes};
+ghost use Rattle.request_texts.specs.NthTraces.{IsRefusedNth, TakesTrace};
+ghost use Rattle.request_texts.specs.OpenedFiles.{HasRefusedFirstText, OpensFirst, OpensNext, TakesInput, files_named, reads_input, text_bytes};
 
-use crate::files::{Surroundings, open};
 use crate::serving::numbering::refuse_number;
 use command_line::{CheckRequest, TextPair};
+use request_texts::{Surroundings, open};
 use std::alloc::Global;
 use std::io::{Read, Write};
-use trace_batches::read_piece;
-use trace_judging::{Fault, Verdict, check_texts};
+use text_streams::Fault;
+use trace_judging::check_texts;
+use trace_reports::Verdict;
+use trace_streams::read_piece;
 
 /// Checks a certificate against a trace. Their files are opened before one is read.
 pub(crate) fn check_named<O: Surroundings, R: Read, W: Write>(

@@ -3,17 +3,17 @@ ghost use Rattle.std.specs.Prelude.{◌≡◌, ◌≢◌, ◌⊎◌, [], ◌∷�
 ghost use Rattle.command_line.specs.Requests.{asked_of, files_of};
 ghost use Rattle.command_line.specs.declared.requests.Request.TheVariants.{Seen};
 ghost use Rattle.outcome_reports.specs.SeenTraces.{IsSeenOfReaders};
-ghost use Rattle.trace_judging.specs.declared.faults.Fault.TheVariants.{NoThread};
-ghost use Rattle.trace_judging.specs.WrittenReports.{LeavesAtFault, WritesWhole};
-ghost use Rattle.request_serving.specs.OpenedFiles.{HasRefusedFirstText, OpensFirst, OpensNext, TakesInput, files_named, reads_input, text_bytes};
+ghost use Rattle.text_streams.specs.declared.faults.Fault.TheVariants.{NoThread};
+ghost use Rattle.text_streams.specs.WrittenTexts.{LeavesAtFault, WritesWhole};
+ghost use Rattle.request_texts.specs.OpenedFiles.{HasRefusedFirstText, OpensFirst, OpensNext, TakesInput, files_named, reads_input, text_bytes};
 
-use crate::files::{Surroundings, open};
 use command_line::{SeenRequest, TextPair};
 use outcome_reports::count_seen;
+use request_texts::{Surroundings, open};
 use std::alloc::Global;
 use std::io::{Read, Write};
-use trace_batches::BatchVerdict;
-use trace_judging::Fault;
+use text_streams::Fault;
+use trace_reports::Answer;
 
 /// Writes how often a stream of traces has each trace of a program's runs. The files of both are opened before one is read.
 pub(crate) fn count_named<O: Surroundings, R: Read, W: Write>(
@@ -22,7 +22,7 @@ pub(crate) fn count_named<O: Surroundings, R: Read, W: Write>(
     files: &mut O,
     reader: &mut R,
     writer: &mut W,
-) -> Result<BatchVerdict, Fault>
+) -> Result<Answer, Fault>
     ensures whole { let programs = text_bytes (files_of request.now.texts).0 (R.remaining reader.old) (O.bytes files.old) in let streams = text_bytes (files_of request.now.texts).1 (R.remaining reader.old) (O.bytes files.old) in IfOk result (WritesWhole (IsSeenOfReaders request.now.limit programs streams) (W.contents writer.old) (W.contents writer.new)) }
     ensures fault { let programs = text_bytes (files_of request.now.texts).0 (R.remaining reader.old) (O.bytes files.old) in let streams = text_bytes (files_of request.now.texts).1 (R.remaining reader.old) (O.bytes files.old) in IfErr result (LeavesAtFault (IsSeenOfReaders request.now.limit programs streams) (W.contents writer.old) (W.contents writer.new)) }
     ensures no_thread { IfErr result (λ fault. fault ≢ NoThread) }

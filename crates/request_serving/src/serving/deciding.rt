@@ -3,26 +3,27 @@ ghost use Rattle.std.specs.Prelude.{◌≡◌, [], ◌∷◌, IfOk, IfErr, IfSom
 ghost use Rattle.command_line.specs.Requests.{asked_of};
 ghost use Rattle.command_line.specs.declared.requests.Request.TheVariants.{Decide};
 ghost use Rattle.trace_decisions.specs.DecisionTexts.{IsDecisionOfReader};
-ghost use Rattle.trace_judging.specs.Limits.{trace_read_limit};
-ghost use Rattle.trace_judging.specs.Streams.{LosesPrefix};
-ghost use Rattle.trace_judging.specs.WrittenReports.{LeavesAtFault, WritesWhole};
+ghost use Rattle.trace_streams.specs.Limits.{trace_read_limit};
+ghost use Rattle.text_streams.specs.Streams.{LosesPrefix};
+ghost use Rattle.text_streams.specs.WrittenTexts.{LeavesAtFault, WritesWhole};
 ghost use Rattle.request_serving.specs.Deciding.{IsDecided};
-ghost use Rattle.request_serving.specs.Internal.Ranges.{HasWorkerRange};
-ghost use Rattle.request_serving.specs.NthTraces.{TakesTrace};
+ghost use Rattle.trace_judging.specs.Limits.{HasWorkerRange};
+ghost use Rattle.request_texts.specs.NthTraces.{TakesTrace};
 ghost use Rattle.request_serving.specs.Presentations.{decided_as, refused_as};
-ghost use Rattle.request_serving.specs.OpenedFiles.{OpensNext, files_named, name_in, text_bytes};
+ghost use Rattle.request_texts.specs.OpenedFiles.{OpensNext, files_named, name_in, text_bytes};
 
-use crate::files::{Surroundings, open};
 use crate::serving::numbering::refuse_number;
 use command_line::{DecideRequest, Presentation};
 use decision_explanation::AsDecisionExplanation;
 use decision_pictures::AsDecisionPicture;
+use request_texts::{Surroundings, open};
 use std::io::{Read, Write};
 use std::sync::Wait;
 use std::thread::Threads;
-use trace_batches::read_piece;
-use trace_decisions::{Answer, AsDecision, DecisionLimits, decide_input};
-use trace_judging::Fault;
+use text_streams::Fault;
+use trace_decisions::{AsDecision, DecisionLimits, decide_input};
+use trace_reports::Answer;
+use trace_streams::read_piece;
 
 /// Decides on the trace in a file, or else in what the reader has, with at most as many steps as the request names, and presents
 /// the decision.

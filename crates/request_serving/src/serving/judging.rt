@@ -2,26 +2,28 @@
 ghost use Rattle.std.specs.Prelude.{◌≡◌, [], ◌∷◌, IfOk, IfErr, IfSome, None};
 ghost use Rattle.command_line.specs.Requests.{asked_of};
 ghost use Rattle.command_line.specs.declared.requests.Request.TheVariants.{Judge};
-ghost use Rattle.trace_judging.specs.Limits.{trace_read_limit};
-ghost use Rattle.trace_judging.specs.Streams.{LosesPrefix};
+ghost use Rattle.trace_streams.specs.Limits.{trace_read_limit};
+ghost use Rattle.text_streams.specs.Streams.{LosesPrefix};
 ghost use Rattle.trace_reports.specs.Renderings.{IsTextOfReader};
-ghost use Rattle.trace_judging.specs.WrittenReports.{LeavesAtFault, WritesWhole};
-ghost use Rattle.request_serving.specs.Internal.Ranges.{HasWorkerRange};
+ghost use Rattle.text_streams.specs.WrittenTexts.{LeavesAtFault, WritesWhole};
+ghost use Rattle.trace_judging.specs.Limits.{HasWorkerRange};
 ghost use Rattle.request_serving.specs.Endings.{IsPresented};
-ghost use Rattle.request_serving.specs.NthTraces.{TakesTrace};
+ghost use Rattle.request_texts.specs.NthTraces.{TakesTrace};
 ghost use Rattle.request_serving.specs.Presentations.{refused_as, said_as};
-ghost use Rattle.request_serving.specs.OpenedFiles.{OpensNext, files_named, name_in, text_bytes};
+ghost use Rattle.request_texts.specs.OpenedFiles.{OpensNext, files_named, name_in, text_bytes};
 
-use crate::files::{Surroundings, open};
 use crate::serving::numbering::refuse_number;
 use command_line::{JudgeRequest, Presentation};
+use request_texts::{Surroundings, open};
 use std::io::{Read, Write};
 use std::sync::Wait;
 use std::thread::Threads;
-use trace_batches::read_piece;
+use text_streams::Fault;
 use trace_explanation::AsExplanation;
-use trace_judging::{Fault, Verdict, judge, judge_with};
+use trace_judging::{judge, judge_with};
 use trace_pictures::{AsFieldPicture, AsPicture};
+use trace_reports::Verdict;
+use trace_streams::read_piece;
 
 /// Judges the trace in a file, or else in what the reader has, and presents the verdict.
 pub(crate) fn judge_named<

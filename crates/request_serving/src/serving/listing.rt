@@ -3,20 +3,20 @@ ghost use Rattle.std.specs.Prelude.{◌≡◌, ◌≢◌, IfOk, IfErr, IfSome, N
 ghost use Rattle.command_line.specs.Requests.{asked_of};
 ghost use Rattle.command_line.specs.declared.requests.Request.TheVariants.{Outcomes};
 ghost use Rattle.outcome_reports.specs.Outcomes.{IsOutcomesOfReader};
-ghost use Rattle.trace_judging.specs.declared.faults.Fault.TheVariants.{NoThread};
-ghost use Rattle.trace_judging.specs.Limits.{trace_read_limit};
-ghost use Rattle.trace_judging.specs.Streams.{LosesPrefix};
-ghost use Rattle.trace_judging.specs.WrittenReports.{LeavesAtFault, WritesWhole};
-ghost use Rattle.request_serving.specs.OpenedFiles.{OpensNext, files_named, name_in, text_bytes};
+ghost use Rattle.text_streams.specs.declared.faults.Fault.TheVariants.{NoThread};
+ghost use Rattle.trace_streams.specs.Limits.{trace_read_limit};
+ghost use Rattle.text_streams.specs.Streams.{LosesPrefix};
+ghost use Rattle.text_streams.specs.WrittenTexts.{LeavesAtFault, WritesWhole};
+ghost use Rattle.request_texts.specs.OpenedFiles.{OpensNext, files_named, name_in, text_bytes};
 ghost use Rattle.request_serving.specs.Outcomes.{asked_outcomes};
 
-use crate::files::{Surroundings, open};
 use command_line::OutcomesRequest;
 use outcome_reports::{OutcomeForm, OutcomeOptions, list_outcomes};
+use request_texts::{Surroundings, open};
 use std::alloc::Global;
 use std::io::{Read, Write};
-use trace_batches::BatchVerdict;
-use trace_judging::Fault;
+use text_streams::Fault;
+use trace_reports::Answer;
 
 /// Writes the outcomes of the program in a file, or else of that which the reader has.
 pub(crate) fn list_named<O: Surroundings, R: Read, W: Write>(
@@ -25,7 +25,7 @@ pub(crate) fn list_named<O: Surroundings, R: Read, W: Write>(
     files: &mut O,
     reader: &mut R,
     writer: &mut W,
-) -> Result<BatchVerdict, Fault>
+) -> Result<Answer, Fault>
     ensures whole { let programs = text_bytes (name_in request.now.program) (R.remaining reader.old) (O.bytes files.old) in IfOk result (WritesWhole (IsOutcomesOfReader (asked_outcomes request.now.limit request.now.states) programs) (W.contents writer.old) (W.contents writer.new)) }
     ensures fault { let programs = text_bytes (name_in request.now.program) (R.remaining reader.old) (O.bytes files.old) in IfErr result (LeavesAtFault (IsOutcomesOfReader (asked_outcomes request.now.limit request.now.states) programs) (W.contents writer.old) (W.contents writer.new)) }
     ensures no_thread { IfErr result (λ fault. fault ≢ NoThread) }

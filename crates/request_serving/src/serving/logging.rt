@@ -2,20 +2,21 @@
 ghost use Rattle.std.specs.Prelude.{◌≡◌, ℕ, List, IfOk, IfErr, IfSome, OnErr, None};
 ghost use Rattle.std.specs.Io.KnownBytes.{Consumes, Keeps};
 ghost use Rattle.log_reports.specs.LogReports.{IsLogReportOfReader};
-ghost use Rattle.trace_judging.specs.Streams.{AppendsPrefix};
-ghost use Rattle.trace_judging.specs.WrittenReports.{LeavesAtFault, WritesWhole};
+ghost use Rattle.text_streams.specs.Streams.{AppendsPrefix};
+ghost use Rattle.text_streams.specs.WrittenTexts.{LeavesAtFault, WritesWhole};
 ghost use Rattle.request_serving.specs.Logs.{form_of, options_of};
-ghost use Rattle.request_serving.specs.OpenedFiles.{OpensNext, files_named, name_in, text_bytes};
+ghost use Rattle.request_texts.specs.OpenedFiles.{OpensNext, files_named, name_in, text_bytes};
 ghost use Rattle.command_line.specs.Requests.{asked_of};
 ghost use Rattle.command_line.specs.declared.requests.Request.TheVariants.{Log};
 
-use crate::files::{Surroundings, open};
 use command_line::{LogForm as AskedForm, LogOptions as AskedOptions, LogRequest};
-use log_reports::{LogForm, LogOptions, LogVerdict, report_log};
+use log_reports::{LogForm, LogOptions, report_log};
+use request_texts::{Surroundings, open};
 use std::io::{Read, Write};
 use std::sync::Wait;
 use std::thread::Threads;
-use trace_judging::Fault;
+use text_streams::Fault;
+use trace_reports::Answer;
 
 /// Reports on the log in a file, or else in what the reader has. Nothing is written to the errors at a fault.
 pub(crate) fn log_named<
@@ -31,7 +32,7 @@ pub(crate) fn log_named<
     reader: &mut R,
     writer: &mut W,
     errors: &mut E,
-) -> Result<LogVerdict, Fault>
+) -> Result<Answer, Fault>
     ensures whole { let remaining = text_bytes (name_in request.now.file) (R.remaining reader.old) (O.bytes files.old) in IfOk result (WritesWhole (IsLogReportOfReader (options_of request.now.options) remaining) (W.contents writer.old) (W.contents writer.new)) }
     ensures left { let remaining = text_bytes (name_in request.now.file) (R.remaining reader.old) (O.bytes files.old) in IfErr result (LeavesAtFault (IsLogReportOfReader (options_of request.now.options) remaining) (W.contents writer.old) (W.contents writer.new)) }
     ensures told { IfOk result (λ _. (text : List ℕ) × AppendsPrefix (E.contents errors.old) (E.contents errors.new) text) }

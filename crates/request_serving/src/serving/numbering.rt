@@ -1,12 +1,12 @@
 //! The trace of a number, where there are fewer.
 ghost use Rattle.std.specs.Prelude.{◌≡◌, IfOk, IfErr};
 ghost use Rattle.std.specs.Io.KnownBytes.{Appends};
-ghost use Rattle.request_serving.specs.NthTraces.{nth_refusal};
-ghost use Rattle.trace_judging.specs.Streams.{AppendsPrefix};
-ghost use Rattle.trace_judging.specs.declared.faults.Fault.{Fault};
+ghost use Rattle.request_texts.specs.NthTraces.{nth_refusal};
+ghost use Rattle.text_streams.specs.Streams.{AppendsPrefix};
+ghost use Rattle.text_streams.specs.declared.faults.Fault.{Fault};
 
 use std::io::Write;
-use trace_judging::{Fault, write_text};
+use text_streams::{Fault, write_text};
 
 /// Writes that there are fewer traces, and answers what is said of a refusal.
 pub(crate) fn refuse_number<X: Copy, W: Write>(refused: X, writer: &mut W) -> Result<X, Fault>

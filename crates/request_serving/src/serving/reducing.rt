@@ -3,21 +3,22 @@ ghost use Rattle.std.specs.Prelude.{◌≡◌, ℕ, List, IfErr, IfOk, IfSome, O
 ghost use Rattle.std.specs.Io.KnownBytes.{Keeps};
 ghost use Rattle.command_line.specs.Requests.{asked_of};
 ghost use Rattle.command_line.specs.declared.requests.Request.TheVariants.{Reduce};
-ghost use Rattle.trace_judging.specs.Streams.{AppendsPrefix};
-ghost use Rattle.trace_judging.specs.WrittenReports.{LeavesAtFault, WritesWhole};
-ghost use Rattle.request_serving.specs.NthTraces.{TakesTrace};
-ghost use Rattle.request_serving.specs.OpenedFiles.{OpensNext, files_named, name_in, text_bytes};
+ghost use Rattle.text_streams.specs.Streams.{AppendsPrefix};
+ghost use Rattle.text_streams.specs.WrittenTexts.{LeavesAtFault, WritesWhole};
+ghost use Rattle.request_texts.specs.NthTraces.{TakesTrace};
+ghost use Rattle.request_texts.specs.OpenedFiles.{OpensNext, files_named, name_in, text_bytes};
 ghost use Rattle.request_serving.specs.Reducing.{IsReduced};
 
-use crate::files::{Surroundings, open};
 use crate::serving::numbering::refuse_number;
 use command_line::ReduceRequest;
+use request_texts::{Surroundings, open};
 use std::io::{Read, Write};
 use std::sync::Wait;
 use std::thread::Threads;
-use trace_batches::read_piece;
-use trace_judging::{Fault, Verdict};
+use text_streams::Fault;
 use trace_reduction::reduce_trace;
+use trace_reports::Verdict;
+use trace_streams::read_piece;
 
 /// Reduces the trace in a file, or else in what the reader has. Nothing is written to the errors at a fault.
 pub(crate) fn reduce_named<

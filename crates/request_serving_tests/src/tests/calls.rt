@@ -1,12 +1,16 @@
-//! The calls that the READMEs of `command_line` and `request_serving` show, so that they compile and are proved.
+//! The calls that the READMEs of `command_line`, `request_texts`, `run_serving` and `request_serving` show, so that they compile and
+//! are proved.
 
-use command_line::{CommandLine, Notes, Request, read_arguments};
-use request_serving::{Diagnostics, drive};
+use command_line::{CommandLine, MakeOptions, Notes, Request, read_arguments};
+use request_serving::drive;
+use request_texts::{Diagnostics, Surroundings, open};
+use run_serving::make;
 use std::alloc::{AllocError, AllocGlobal, Global};
 use std::io::{Read, Write};
 use std::rt::{Clock, Files};
 use std::sync::Wait;
 use std::thread::Threads;
+use text_streams::Fault;
 
 /// `command_line`: what arguments ask for.
 pub(super) fn request_of_arguments<'a>(
@@ -15,6 +19,24 @@ pub(super) fn request_of_arguments<'a>(
 ) -> Result<(Request<'a>, Notes), AllocError> {
     let CommandLine { request, notes } = read_arguments(alloc, arguments)?;
     Ok((request, notes))
+}
+
+/// `request_texts`: opens a file and closes it.
+pub(super) fn open_a_file<O: Surroundings>(files: &mut O, name: &str) -> Result<(), Fault> {
+    let mut file = open(files, name)?;
+    let mut first = [0u8; 1];
+    let _ = file.read(&mut first);
+    Ok(())
+}
+
+/// `run_serving`: writes the program of a seed.
+pub(super) fn write_a_program<W: Write>(
+    alloc: Global,
+    options: &MakeOptions,
+    writer: &mut W,
+) -> Result<u8, Fault> {
+    let status = make(alloc, options, writer)?;
+    Ok(status)
 }
 
 /// `request_serving`: does what arguments ask for, and gives the status of the process.

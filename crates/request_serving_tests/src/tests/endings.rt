@@ -1,7 +1,8 @@
 //! How runs, faults and arguments that can't be had end: the whole line of each, and the status.
 
 use issue_desk::RunFault;
-use request_serving::{RunFailure, end_by, end_run, end_without_arguments, failure_of};
+use request_serving::{end_by, end_run, end_without_arguments};
+use run_serving::{RunFailure, failure_of};
 use std::alloc::Global;
 use std::io::ErrorKind;
 use std::process::Abort;

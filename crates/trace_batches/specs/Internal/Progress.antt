@@ -1,12 +1,12 @@
 -- How far a batch has come: its jobs, what was counted, and what was written.
 use Rattle.std.specs.Prelude.{◌≡◌, ℕ, suc, ◌+◌, ◌<◌, List, [], ◌++◌, length, get_or, take, Option, IfSome, Result, Ok, Err}
 use Rattle.std.specs.Io.KnownBytes.{Appends, Consumes}
-use Rattle.trace_batches.specs.Internal.Cutters.{CutterValue, IsAt}
-use Rattle.trace_batches.specs.Pieces.{IsSplit}
-use Rattle.trace_judging.specs.declared.faults.Fault.{Fault}
-use Rattle.trace_judging.specs.Limits.{trace_read_limit}
-use Rattle.trace_reports.specs.Readings.{ReadsAs}
-use Rattle.trace_judging.specs.Streams.{AppendsPrefix}
+use Rattle.trace_streams.specs.Cutters.{CutterValue, IsAt}
+use Rattle.trace_streams.specs.Pieces.{IsSplit}
+use Rattle.text_streams.specs.declared.faults.Fault.{Fault}
+use Rattle.trace_streams.specs.Limits.{trace_read_limit}
+use Rattle.text_streams.specs.Readings.{ReadsAs}
+use Rattle.text_streams.specs.Streams.{AppendsPrefix}
 use Rattle.trace_batches.specs.declared.batches.TextJudging.{TextJudging}
 use Rattle.trace_batches.specs.declared.jobs.Job.{Job}
 use Rattle.trace_batches.specs.declared.judgments.Judgment.{Judgment}

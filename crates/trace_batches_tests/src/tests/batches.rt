@@ -17,10 +17,9 @@ use std::io::Write;
 use std::process::Abort;
 use std::sync::Wait;
 use std::thread::Threads;
-use trace_batches::{
-    Batch, BatchFormat, BatchMethod, BatchOptions, BatchPrinting, BatchVerdict, judge_batch,
-};
-use trace_judging::Fault;
+use text_streams::Fault;
+use trace_batches::{Batch, BatchFormat, BatchMethod, BatchOptions, BatchPrinting, judge_batch};
+use trace_reports::Answer;
 use traces_for_tests::{Full, ShortWriter};
 
 /// A text of a batch, and its name where lines have one.
@@ -30,7 +29,7 @@ type NamedText = (Option<&'static str>, &'static str);
 type Case = (
     &'static [NamedText],
     BatchPrinting,
-    BatchVerdict,
+    Answer,
     &'static str,
     &'static str,
 );
@@ -120,7 +119,7 @@ fn judged<H: Threads + Wait + Sync, W: Write, E: Write>(
     texts: &[NamedText],
     writer: &mut W,
     errors: &mut E,
-) -> Result<BatchVerdict, Fault>
+) -> Result<Answer, Fault>
     requires { 1 ≤ options.workers }
 {
     match texts {
@@ -139,7 +138,7 @@ fn judged_each<H: Threads + Wait + Sync, W: Write, E: Write>(
     texts: &[NamedText],
     writer: &mut W,
     errors: &mut E,
-) -> Result<BatchVerdict, Fault>
+) -> Result<Answer, Fault>
     requires { 1 ≤ options.workers }
 {
     let mut batch = Batch::begin(alloc, options, writer)?;
@@ -157,8 +156,8 @@ fn judged_each<H: Threads + Wait + Sync, W: Write, E: Write>(
 fn expect<H: Abort>(
     rt: &H,
     case: &str,
-    said: Result<BatchVerdict, Fault>,
-    expected: Result<BatchVerdict, Fault>,
+    said: Result<Answer, Fault>,
+    expected: Result<Answer, Fault>,
     written: &[u8],
     text: &str,
 ) {

@@ -9,8 +9,8 @@ use Rattle.tso_report.specs.declared.campaigns.CampaignPrinting.{CampaignPrintin
 use Rattle.tso_report.specs.declared.campaigns.CampaignPrinting.TheVariants.{Lines, Traces}
 use Rattle.issue_desk.specs.declared.faults.RunFault.{RunFault}
 use Rattle.issue_desk.specs.declared.faults.RunFault.TheVariants as run
-use Rattle.trace_judging.specs.declared.faults.Fault.{Fault}
-use Rattle.trace_judging.specs.declared.faults.Fault.TheVariants.{OutOfMemory, NoThread, Missing}
+use Rattle.text_streams.specs.declared.faults.Fault.{Fault}
+use Rattle.text_streams.specs.declared.faults.Fault.TheVariants.{OutOfMemory, NoThread, Missing}
 use Rattle.unit_core.specs.Units.{UnitValue, new_unit}
 use Rattle.tso_report.specs.Campaigns.{AreResultsFrom, IsResultOfSeed, SeedResult, seed_lines, total_line, violations_of}
 

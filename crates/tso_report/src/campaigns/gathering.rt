@@ -2,14 +2,14 @@
 ghost use Rattle.std.specs.Prelude.{◌≡◌, ◌≢◌, ◌⊎◌, ◌+◌, ◌<◌, ◌≤◌, ◌^◌, ℕ, List, [], false, None, IfOk, IfErr, IfSome, MatchOption, length, get_or, map, replicate, unwrap_or};
 ghost use Rattle.tso_ops.specs.Values.{rows};
 ghost use Rattle.tso_report.specs.Internal.Gathering.{AreKnown, AreUnitsFrom, IsGathered, IsLeastMissing, KeepsSeeds};
-ghost use Rattle.trace_judging.specs.declared.faults.Fault.{Fault};
+ghost use Rattle.text_streams.specs.declared.faults.Fault.{Fault};
 ghost use Rattle.unit_core.specs.Units.{UnitValue};
 
 use super::CampaignPlan;
 use super::seeds::{JobResult, Judged, SeedUnits};
 use std::alloc::Global;
 use std::marker::{Model, PhantomData};
-use trace_judging::Fault;
+use text_streams::Fault;
 use tso_ops::OutOfMemory;
 
 /// What is known of all seeds of a campaign, in their order.

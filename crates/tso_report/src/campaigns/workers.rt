@@ -2,7 +2,7 @@
 ghost use Rattle.std.specs.Prelude.{◌≡◌, ◌⊎◌, ◌+◌, ◌≤◌, ◌^◌, [], All, IfOk, IfErr, length, map};
 ghost use Rattle.tso_report.specs.Limits.{seed_count_limit};
 ghost use Rattle.tso_report.specs.Internal.Gathering.{AreUnitsFrom, KeepsSeeds};
-ghost use Rattle.trace_judging.specs.declared.faults.Fault.{Fault};
+ghost use Rattle.text_streams.specs.declared.faults.Fault.{Fault};
 
 use super::CampaignPlan;
 use super::gathering::Gathered;
@@ -13,7 +13,7 @@ use std::alloc::Global;
 use std::sync::Wait;
 use std::thread;
 use std::thread::{Scope, Threads};
-use trace_judging::Fault;
+use text_streams::Fault;
 use unit_core::MemoryUnit;
 
 /// The ends of the channels that a worker has: jobs come in by one, their results go out by the other.

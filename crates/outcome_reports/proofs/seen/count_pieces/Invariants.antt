@@ -1,6 +1,6 @@
 use Rattle.std.proofs.Common.{◌≡◌, ℕ, List, length, map}
 use Rattle.tso_ops.specs.Values.{TraceValue, rows}
-use Rattle.trace_batches.specs.PieceReading.{HasGiven}
+use Rattle.trace_streams.specs.PieceReading.{HasGiven}
 use Rattle.final_states.specs.FinalStates.{values_read}
 use Rattle.outcome_reports.specs.Internal.Streams.{HasCounted}
 use Rattle.outcome_reports.specs.Outcomes.{AreTracesOf}

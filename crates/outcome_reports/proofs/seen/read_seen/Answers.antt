@@ -1,6 +1,7 @@
 use Rattle.std.proofs.lemmas.Result.{IfOk-weaker}
 use Rattle.outcome_reports.specs.SeenTraces.{IsSeenOf}
-use Rattle.outcome_reports.proofs.SaidFacts.{not_refused_program, said_of_program, said_of_refusal}
+use Rattle.outcome_reports.proofs.SaidFacts.{said_of_program, said_of_refusal}
+use Rattle.trace_streams.proofs.InputFacts.{not_refused_program}
 use Rattle.outcome_reports.proofs.seen.read_seen.Goals as goal
 
 pub returns-in-Ok-clause-said : goal.returns-in-Ok-clause-said

@@ -2,7 +2,7 @@ use Rattle.std.proofs.Common.{◌∙◌, ap, inl, inr, rules, subst, sym, arith}
 use Rattle.command_line.specs.Requests.{asked_of}
 use Rattle.request_serving.specs.Endings.{Does, EndsOutOfMemory, Outputs, outputs}
 use Rattle.request_serving.specs.LawfulRequests.{RunsLawfully, runs_on_lawful_unit}
-use Rattle.request_serving.specs.OpenedFiles.{HasRefusedFirstText, OpensFirst, TakesInput, files_named, reads_input}
+use Rattle.request_texts.specs.OpenedFiles.{HasRefusedFirstText, OpensFirst, TakesInput, files_named, reads_input}
 use Rattle.request_serving.proofs.driving.drive_over.Goals as goal
 
 pub returns-in-Ok-clause-ends : goal.returns-in-Ok-clause-ends

@@ -1,24 +1,24 @@
 use Rattle.command_line.specs.Requests.{asked_of, files_of}
-use Rattle.trace_judging.specs.WrittenReports.{LeavesAtFault}
-use Rattle.request_serving.specs.Deciding.{IsDecided, status_of_answer}
+use Rattle.text_streams.specs.WrittenTexts.{LeavesAtFault}
+use Rattle.request_serving.specs.Deciding.{IsDecided}
 use Rattle.request_serving.specs.Endings.{IsPresented, Outputs, outputs}
-use Rattle.request_serving.specs.OpenedFiles.{name_in, text_bytes}
-use Rattle.request_serving.specs.Replaying.{IsReplayText}
-use Rattle.request_serving.specs.Statuses.{status_of}
-use Rattle.request_serving.specs.Batches.{AreTextsOfBatch, asked_printing, status_of_batch}
+use Rattle.request_texts.specs.OpenedFiles.{name_in, text_bytes}
+use Rattle.run_serving.specs.Replaying.{IsReplayText}
+use Rattle.trace_reports.specs.Statuses.{status_of, status_of_answer}
+use Rattle.request_serving.specs.Batches.{AreTextsOfBatch, asked_printing}
 use Rattle.request_serving.specs.Internal.Batching.{files_in}
 use Rattle.request_serving.specs.Logs.{options_of}
 use Rattle.request_serving.proofs.BatchingFacts.{ends_batched, read_files, unread_files}
 use Rattle.log_reports.specs.LogReports.{IsLogReportOfReader}
 use Rattle.request_serving.proofs.LoggingFacts.{ends_noted}
-use Rattle.request_serving.specs.Logs.{status_of_log}
 use Rattle.request_serving.specs.Reducing.{IsReduced}
-use Rattle.request_serving.proofs.EndFacts.{at_text, ends_as, named, opens_all, unnamed, without_thread}
+use Rattle.request_serving.proofs.EndFacts.{at_text, ends_as, without_thread}
+use Rattle.request_texts.proofs.KnownFacts.{named, opens_all, unnamed}
 use Rattle.std.specs.Prelude.{◌≢◌}
 use Rattle.outcome_reports.specs.Outcomes.{IsOutcomesOfReader}
-use Rattle.trace_judging.specs.declared.faults.Fault.TheVariants.{NoThread}
+use Rattle.text_streams.specs.declared.faults.Fault.TheVariants.{NoThread}
 use Rattle.request_serving.specs.Outcomes.{asked_outcomes}
-use Rattle.request_serving.proofs.RunningFacts.{ends_run, ends_run_times}
+use Rattle.request_serving.proofs.RunEnds.{ends_run, ends_run_times}
 use Rattle.request_serving.proofs.LawfulFacts.{known_status, lawful_status}
 use Rattle.request_serving.proofs.serving.serve.Goals as goal
 
@@ -76,33 +76,33 @@ returns-in-Reduce-clause-taken g c = rw c.in-Reduce.is (λ reads other.
 
 pub returns-in-Batch-clause-ends : goal.returns-in-Batch-clause-ends
 returns-in-Batch-clause-ends g c =
-    let o : Outputs = outputs (g.W.Write.contents c.args.writer.now) (g.W.Write.contents c.batch_named-judged.new.writer) (g.E.Write.contents c.args.errors.now) (g.E.Write.contents c.end_batch.new.errors) in
+    let o : Outputs = outputs (g.W.Write.contents c.args.writer.now) (g.W.Write.contents c.batch_named-judged.new.writer) (g.E.Write.contents c.args.errors.now) (g.E.Write.contents c.end_answer-in-Batch.new.errors) in
     let request = c.in-Batch.request in
     let are_texts = AreTextsOfBatch (files_in request.texts.items) (g.R.Read.remaining c.args.reader.now) (g.O.Surroundings.bytes c.args.files.now) in
     let judged = c.batch_named-judged.ensures in
-    rw c.in-Batch.is (ends_batched (asked_printing request.printing) are_texts (g.E.Write.contents c.batch_named-judged.new.errors) o c.batch_named-judged.result c.end_batch.result judged.whole judged.left judged.fault c.end_batch.ensures.verdict c.end_batch.ensures.fault)
+    rw c.in-Batch.is (ends_batched (asked_printing request.printing) are_texts (g.E.Write.contents c.batch_named-judged.new.errors) o c.batch_named-judged.result c.end_answer-in-Batch.result judged.whole judged.left judged.fault c.end_answer-in-Batch.ensures.answer c.end_answer-in-Batch.ensures.fault)
 
 pub returns-in-Batch-clause-first : goal.returns-in-Batch-clause-first
 returns-in-Batch-clause-first g c = rw c.in-Batch.is c.batch_named-judged.ensures.first
 
 pub returns-in-Batch-clause-opened : goal.returns-in-Batch-clause-opened
 returns-in-Batch-clause-opened g c = λ other.
-    rw c.in-Batch.is (at_text c.batch_named-judged.result c.end_batch.result _ _ _ c.end_batch.ensures.fault c.batch_named-judged.ensures.opened other)
+    rw c.in-Batch.is (at_text c.batch_named-judged.result c.end_answer-in-Batch.result _ _ _ c.end_answer-in-Batch.ensures.fault c.batch_named-judged.ensures.opened other)
 
 pub returns-in-Batch-clause-unread : goal.returns-in-Batch-clause-unread
 returns-in-Batch-clause-unread g c = rw c.in-Batch.is (λ unread. c.batch_named-judged.ensures.unread (unread_files (files_in c.in-Batch.request.texts.items) unread))
 
 pub returns-in-Batch-clause-taken : goal.returns-in-Batch-clause-taken
 returns-in-Batch-clause-taken g c = rw c.in-Batch.is (λ reads other.
-    at_text c.batch_named-judged.result c.end_batch.result _ _ _ c.end_batch.ensures.fault (c.batch_named-judged.ensures.taken (read_files (files_in c.in-Batch.request.texts.items) reads)) other)
+    at_text c.batch_named-judged.result c.end_answer-in-Batch.result _ _ _ c.end_answer-in-Batch.ensures.fault (c.batch_named-judged.ensures.taken (read_files (files_in c.in-Batch.request.texts.items) reads)) other)
 
 pub returns-in-Log-clause-ends : goal.returns-in-Log-clause-ends
 returns-in-Log-clause-ends g c =
-    let o : Outputs = outputs (g.W.Write.contents c.args.writer.now) (g.W.Write.contents c.log_named-reported.new.writer) (g.E.Write.contents c.args.errors.now) (g.E.Write.contents c.end_log.new.errors) in
+    let o : Outputs = outputs (g.W.Write.contents c.args.writer.now) (g.W.Write.contents c.log_named-reported.new.writer) (g.E.Write.contents c.args.errors.now) (g.E.Write.contents c.end_answer-in-Log.new.errors) in
     let request = c.in-Log.request in
     let remaining = text_bytes (name_in request.file) (g.R.Read.remaining c.args.reader.now) (g.O.Surroundings.bytes c.args.files.now) in
     let logged = c.log_named-reported.ensures in
-    rw c.in-Log.is (ends_noted (IsLogReportOfReader (options_of request.options) remaining) status_of_log (g.E.Write.contents c.log_named-reported.new.errors) o c.log_named-reported.result c.end_log.result logged.whole logged.left logged.told logged.untold c.end_log.ensures.verdict c.end_log.ensures.fault)
+    rw c.in-Log.is (ends_noted (IsLogReportOfReader (options_of request.options) remaining) status_of_answer (g.E.Write.contents c.log_named-reported.new.errors) o c.log_named-reported.result c.end_answer-in-Log.result logged.whole logged.left logged.told logged.untold c.end_answer-in-Log.ensures.answer c.end_answer-in-Log.ensures.fault)
 
 pub returns-in-Log-clause-first : goal.returns-in-Log-clause-first
 returns-in-Log-clause-first g c = rw c.in-Log.is (opens_all _ _ _ c.log_named-reported.ensures.opened)
@@ -112,7 +112,7 @@ returns-in-Log-clause-unread g c = rw c.in-Log.is (λ unread. named c.in-Log.req
 
 pub returns-in-Log-clause-taken : goal.returns-in-Log-clause-taken
 returns-in-Log-clause-taken g c = rw c.in-Log.is (λ reads other.
-    at_text c.log_named-reported.result c.end_log.result _ _ _ c.end_log.ensures.fault (c.log_named-reported.ensures.taken (unnamed c.in-Log.request.file reads)) other)
+    at_text c.log_named-reported.result c.end_answer-in-Log.result _ _ _ c.end_answer-in-Log.ensures.fault (c.log_named-reported.ensures.taken (unnamed c.in-Log.request.file reads)) other)
 
 pub returns-in-Replay-clause-ends : goal.returns-in-Replay-clause-ends
 returns-in-Replay-clause-ends g c =
@@ -153,13 +153,13 @@ returns-in-Run-clause-no_false_alarm_of_text g c = λ lawful. known_status (aske
 
 pub returns-in-Outcomes-clause-ends : goal.returns-in-Outcomes-clause-ends
 returns-in-Outcomes-clause-ends g c =
-    let o : Outputs = outputs (g.W.Write.contents c.args.writer.now) (g.W.Write.contents c.list_named-listed.new.writer) (g.E.Write.contents c.args.errors.now) (g.E.Write.contents c.end_batch-in-Outcomes.new.errors) in
+    let o : Outputs = outputs (g.W.Write.contents c.args.writer.now) (g.W.Write.contents c.list_named-listed.new.writer) (g.E.Write.contents c.args.errors.now) (g.E.Write.contents c.end_answer-in-Outcomes.new.errors) in
     let request = c.in-Outcomes.request in
     let is_text = IsOutcomesOfReader (asked_outcomes request.limit request.states) (text_bytes (name_in request.program) (g.R.Read.remaining c.args.reader.now) (g.O.Surroundings.bytes c.args.files.now)) in
     let listed = c.list_named-listed in
-    let ended = c.end_batch-in-Outcomes in
-    rw c.in-Outcomes.is (ends_as is_text status_of_batch (λ old new fault. (fault ≢ NoThread) × LeavesAtFault is_text old new fault) o listed.result ended.result listed.ensures.whole
-    (without_thread is_text _ _ listed.result listed.ensures.no_thread listed.ensures.fault) ended.ensures.verdict ended.ensures.fault)
+    let ended = c.end_answer-in-Outcomes in
+    rw c.in-Outcomes.is (ends_as is_text status_of_answer (λ old new fault. (fault ≢ NoThread) × LeavesAtFault is_text old new fault) o listed.result ended.result listed.ensures.whole
+    (without_thread is_text _ _ listed.result listed.ensures.no_thread listed.ensures.fault) ended.ensures.answer ended.ensures.fault)
 
 pub returns-in-Outcomes-clause-first : goal.returns-in-Outcomes-clause-first
 returns-in-Outcomes-clause-first g c = rw c.in-Outcomes.is (opens_all _ _ _ c.list_named-listed.ensures.opened)
@@ -169,7 +169,7 @@ returns-in-Outcomes-clause-unread g c = rw c.in-Outcomes.is (λ unread. named c.
 
 pub returns-in-Outcomes-clause-taken : goal.returns-in-Outcomes-clause-taken
 returns-in-Outcomes-clause-taken g c = rw c.in-Outcomes.is (λ reads other.
-    at_text c.list_named-listed.result c.end_batch-in-Outcomes.result _ _ _ c.end_batch-in-Outcomes.ensures.fault (c.list_named-listed.ensures.taken (unnamed c.in-Outcomes.request.program reads)) other)
+    at_text c.list_named-listed.result c.end_answer-in-Outcomes.result _ _ _ c.end_answer-in-Outcomes.ensures.fault (c.list_named-listed.ensures.taken (unnamed c.in-Outcomes.request.program reads)) other)
 
 pub returns-in-RunTimes-clause-ends : goal.returns-in-RunTimes-clause-ends
 returns-in-RunTimes-clause-ends g c =

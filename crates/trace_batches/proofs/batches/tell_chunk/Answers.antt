@@ -2,7 +2,7 @@ use Rattle.std.proofs.Common.{◌+◌, ◌-◌, ℕ, List, Option, drop, length,
 use Rattle.std.specs.Io.KnownBytes.{Consumes, prepend_known}
 use Rattle.std.proofs.lemmas.List.{drop-drop, length-drop, take_rest}
 use Rattle.std.specs.Global.{Vec}
-use Rattle.trace_batches.specs.Internal.Cutters.{CutterValue, Cuts, IsAt}
+use Rattle.trace_streams.specs.Cutters.{CutterValue, Cuts, IsAt}
 use Rattle.trace_batches.specs.Internal.Progress.{Stands, printing_by}
 use Rattle.trace_batches.proofs.BatchFacts.{chunk_left, chunk_told, front_taken, stands_left}
 use Rattle.trace_batches.proofs.batches.tell_chunk.Goals as goal

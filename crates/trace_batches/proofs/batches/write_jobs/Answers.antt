@@ -2,8 +2,8 @@ use Rattle.std.proofs.Common.{◌≡◌, ◌<◌, ◌+◌, ◌∙◌, ℕ, List,
 use Rattle.std.specs.Io.KnownBytes.{Appends}
 use Rattle.std.specs.Prelude.{Result}
 use Rattle.std.proofs.lemmas.List.{take_more}
-use Rattle.trace_judging.specs.declared.faults.Fault.{Fault}
-use Rattle.trace_judging.specs.Streams.{AppendsPrefix}
+use Rattle.text_streams.specs.declared.faults.Fault.{Fault}
+use Rattle.text_streams.specs.Streams.{AppendsPrefix}
 use Rattle.trace_batches.specs.Batches.{asked, kept_with, piece_note, piece_text}
 use Rattle.trace_batches.specs.declared.jobs.Job.{Job}
 use Rattle.trace_batches.specs.declared.judgments.Judgment.{Judgment}

@@ -12,11 +12,12 @@ use std::process::Abort;
 use std::sync::Wait;
 use std::test::Fail;
 use std::thread::Threads;
-use trace_batches::{Batch, BatchOptions, BatchVerdict, judge_batch};
-use trace_judging::Fault;
+use text_streams::Fault;
+use trace_batches::{Batch, BatchOptions, judge_batch};
+use trace_reports::Answer;
 use traces_for_tests::{FlushedWriter, SlowReader, TornReader};
 
-const VIOLATION: BatchVerdict = BatchVerdict::Violation;
+const VIOLATION: Answer = Answer::Violation;
 
 /// The notes on six texts.
 const NOTES: &str = "kept 1 trace 2\nkept 2 trace 5\ntraces 6 violations 2 refused 3\n";
@@ -81,7 +82,7 @@ fn judged<H: Threads + Wait + Sync, R: Read, W: Write>(
     alloc: Global,
     reader: &mut R,
     writer: &mut W,
-) -> Result<BatchVerdict, Fault> {
+) -> Result<Answer, Fault> {
     let mut errors = Vec::new(alloc);
     let said = judge_batch(rt, alloc, OPTIONS, reader, writer, &mut errors);
     if errors.is_empty() {
@@ -135,7 +136,7 @@ fn reader_fails_at_each_byte(rt: HostRuntime) {
 }
 
 /// How many flushes a writer allows, how often it is flushed, what the batch says, and how many bytes the writer took.
-const FLUSHES: [(usize, usize, Result<BatchVerdict, Fault>, usize); 5] = [
+const FLUSHES: [(usize, usize, Result<Answer, Fault>, usize); 5] = [
     (0, 0, Err(Fault::Write), 27),
     (1, 1, Err(Fault::Write), 45),
     (2, 2, Err(Fault::Write), 78),
@@ -164,7 +165,7 @@ fn judged_both<H: Threads + Wait + Sync>(
     rt: &H,
     alloc: Global,
     output: &mut Vec<u8>,
-) -> Result<BatchVerdict, Fault> {
+) -> Result<Answer, Fault> {
     let mut errors = Vec::new(alloc);
     let mut batch = Batch::begin(alloc, OPTIONS, output)?;
     let mut other = OTHER.as_bytes();
@@ -219,7 +220,7 @@ fn judged_into<H: Threads + Wait + Sync>(
     rt: &H,
     alloc: Global,
     bytes: &mut [u8; ROOM],
-) -> (Result<BatchVerdict, Fault>, usize) {
+) -> (Result<Answer, Fault>, usize) {
     let mut writer = bytes.as_mut_slice();
     let said = judged(rt, alloc, &mut STREAM.as_bytes(), &mut writer);
     (said, ROOM.saturating_sub(writer.len()))

@@ -5,8 +5,8 @@ use std::alloc::Global;
 use std::io::{ErrorKind, Read};
 use std::process::Abort;
 use std::test::Fail;
-use trace_batches::read_piece;
-use trace_judging::Fault;
+use text_streams::Fault;
+use trace_streams::read_piece;
 use traces_for_tests::{SlowReader, TornReader};
 
 /// The three pieces of the stream.

@@ -3,8 +3,8 @@
 use outcome_reports::{OutcomeForm, OutcomeOptions, count_seen, list_outcomes};
 use std::alloc::Global;
 use std::process::Abort;
-use trace_batches::BatchVerdict;
-use trace_judging::Fault;
+use text_streams::Fault;
+use trace_reports::Answer;
 
 /// More states than runs of any of these programs reach.
 const LIMIT: u64 = 1_000;
@@ -44,14 +44,14 @@ const STATES: Asked = Asked::Outcomes(OutcomeForm::States);
 const TRACES: Asked = Asked::Outcomes(OutcomeForm::Traces);
 
 /// A program, what is asked about it, how many states its runs may reach, and the answer with its text.
-type Case = (&'static str, Asked, u64, BatchVerdict, &'static str);
+type Case = (&'static str, Asked, u64, Answer, &'static str);
 
 static CASES: [Case; 13] = [
     (
         STORE_BUFFERING,
         STATES,
         LIMIT,
-        BatchVerdict::NoViolation,
+        Answer::Clear,
         "States 4\n0:0=0; 1:0=0; [0]=1; [1]=2;\n0:0=0; 1:0=1; [0]=1; [1]=2;\n0:0=2; 1:0=0; [0]=1; [1]=2;\n0:0=2; 1:0=1; [0]=1; [1]=2;\n",
     ),
     // the second store is seen only after the first
@@ -59,7 +59,7 @@ static CASES: [Case; 13] = [
         MESSAGE_PASSING,
         STATES,
         LIMIT,
-        BatchVerdict::NoViolation,
+        Answer::Clear,
         "States 3\n1:0=0; 1:1=0; [0]=1; [1]=2;\n1:0=0; 1:1=1; [0]=1; [1]=2;\n1:0=2; 1:1=1; [0]=1; [1]=2;\n",
     ),
     // or before it
@@ -67,7 +67,7 @@ static CASES: [Case; 13] = [
         MESSAGE_PASSING_UNDER_PSO,
         STATES,
         LIMIT,
-        BatchVerdict::NoViolation,
+        Answer::Clear,
         "States 4\n1:0=0; 1:1=0; [0]=1; [1]=2;\n1:0=0; 1:1=1; [0]=1; [1]=2;\n1:0=2; 1:1=0; [0]=1; [1]=2;\n1:0=2; 1:1=1; [0]=1; [1]=2;\n",
     ),
     // not both first stores last
@@ -75,43 +75,37 @@ static CASES: [Case; 13] = [
         TWO_PLUS_TWO_WRITES,
         STATES,
         LIMIT,
-        BatchVerdict::NoViolation,
+        Answer::Clear,
         "States 3\n[0]=1; [1]=2;\n[0]=4; [1]=2;\n[0]=4; [1]=3;\n",
     ),
     (
         STORE_BUFFERING,
         TRACES,
         LIMIT,
-        BatchVerdict::NoViolation,
+        Answer::Clear,
         "tso trace 1\nproc\nst 0 1\nld 1 0\nproc\nst 1 2\nld 0 0\nend\ntso trace 1\nproc\nst 0 1\nld 1 0\nproc\nst 1 2\nld 0 1\nend\ntso trace 1\nproc\nst 0 1\nld 1 2\nproc\nst 1 2\nld 0 0\nend\ntso trace 1\nproc\nst 0 1\nld 1 2\nproc\nst 1 2\nld 0 1\nend\n",
     ),
     // three final states have one trace
-    (
-        TWO_PLUS_TWO_WRITES,
-        TRACES,
-        LIMIT,
-        BatchVerdict::NoViolation,
-        TRACE,
-    ),
+    (TWO_PLUS_TWO_WRITES, TRACES, LIMIT, Answer::Clear, TRACE),
     (
         STORE_BUFFERING,
         STATES,
         1,
-        BatchVerdict::Refused,
+        Answer::Refused,
         "REFUSED States\n",
     ),
     (
         "tso trace 1\nend\n",
         STATES,
         LIMIT,
-        BatchVerdict::Refused,
+        Answer::Refused,
         "REFUSED BadHeader line 1\n",
     ),
     (
         STORE_BUFFERING,
         Asked::Seen(STREAM),
         LIMIT,
-        BatchVerdict::Violation,
+        Answer::Violation,
         "Traces 4\n1 0:0=0; 1:0=0;\n0 0:0=0; 1:0=1;\n0 0:0=2; 1:0=0;\n2 0:0=2; 1:0=1;\nSeen 2\nViolations 1\nRefused 2\n",
     ),
     // a trace of no run
@@ -119,7 +113,7 @@ static CASES: [Case; 13] = [
         MESSAGE_PASSING_UNDER_PSO,
         Asked::Seen("tso trace 1\nmodel pso\nproc\nst 0 1\nst 1 2\nproc\nld 1 2\nld 0 9\nend\n"),
         LIMIT,
-        BatchVerdict::Undecided,
+        Answer::Undecided,
         "Traces 4\n0 1:0=0; 1:1=0;\n0 1:0=0; 1:1=1;\n0 1:0=2; 1:1=0;\n0 1:0=2; 1:1=1;\nSeen 0\nUndecided 1\nRefused 0\n",
     ),
     // a trace with no load has an empty line; a trace of another program is refused
@@ -129,21 +123,21 @@ static CASES: [Case; 13] = [
             "tso trace 1\nproc\nst 0 1\nst 1 2\nproc\nst 1 3\nst 0 4\nend\ntso trace 1\nend\n",
         ),
         LIMIT,
-        BatchVerdict::Refused,
+        Answer::Refused,
         "Traces 1\n1 \nSeen 1\nViolations 0\nRefused 1\n",
     ),
     (
         STORE_BUFFERING,
         Asked::Seen(STREAM),
         1,
-        BatchVerdict::Refused,
+        Answer::Refused,
         "REFUSED States\n",
     ),
     (
         "tso program 1\nx\n",
         Asked::Seen(STREAM),
         LIMIT,
-        BatchVerdict::Refused,
+        Answer::Refused,
         "REFUSED BadLine line 2\n",
     ),
 ];
@@ -156,7 +150,7 @@ fn written_into(
     alloc: Global,
     (program, asked, limit, _, _): Case,
     bytes: &mut [u8; ROOM],
-) -> (Result<BatchVerdict, Fault>, usize) {
+) -> (Result<Answer, Fault>, usize) {
     let mut writer = bytes.as_mut_slice();
     let mut program = program.as_bytes();
     let said = match asked {
@@ -205,21 +199,15 @@ const SMALL: [Case; 3] = [
         TWO_PLUS_TWO_WRITES,
         STATES,
         LIMIT,
-        BatchVerdict::NoViolation,
+        Answer::Clear,
         "States 3\n[0]=1; [1]=2;\n[0]=4; [1]=2;\n[0]=4; [1]=3;\n",
     ),
-    (
-        TWO_PLUS_TWO_WRITES,
-        TRACES,
-        LIMIT,
-        BatchVerdict::NoViolation,
-        TRACE,
-    ),
+    (TWO_PLUS_TWO_WRITES, TRACES, LIMIT, Answer::Clear, TRACE),
     (
         TWO_PLUS_TWO_WRITES,
         Asked::Seen(TRACE),
         LIMIT,
-        BatchVerdict::NoViolation,
+        Answer::Clear,
         "Traces 1\n1 \nSeen 1\nViolations 0\nRefused 0\n",
     ),
 ];

@@ -5,7 +5,7 @@ use super::several::VIOLATIONS_JSON;
 use super::{
     Case, JSON, JUNIT, LINES, SIX, STREAM, TEXT, THREE, TWO_VIOLATIONS, VIOLATIONS, WORDS,
 };
-use trace_batches::BatchVerdict;
+use trace_reports::Answer;
 
 /// How many traces have to be judged, and what the batch comes to then.
 pub(super) type RequiredCase = (u64, Case);
@@ -32,7 +32,7 @@ pub(super) const FEW: [RequiredCase; 2] = [
         (
             &[(None, TRACE)],
             WORDS,
-            BatchVerdict::Undecided,
+            Answer::Undecided,
             LINE,
             "TOO FEW JUDGED 1 required 2\n",
         ),
@@ -42,7 +42,7 @@ pub(super) const FEW: [RequiredCase; 2] = [
         (
             &[(None, SIX)],
             VIOLATIONS,
-            BatchVerdict::Violation,
+            Answer::Violation,
             TWO_VIOLATIONS,
             "kept 1 trace 2\nkept 2 trace 5\ntraces 6 violations 2 refused 3\nTOO FEW JUDGED 3 required 4\n",
         ),
@@ -51,17 +51,14 @@ pub(super) const FEW: [RequiredCase; 2] = [
 
 /// Numbers that are just met, and numbers that are just not met.
 pub(super) const CASES: [RequiredCase; 16] = [
-    (
-        1,
-        (&[(None, TRACE)], WORDS, BatchVerdict::NoViolation, LINE, ""),
-    ),
+    (1, (&[(None, TRACE)], WORDS, Answer::Clear, LINE, "")),
     // no trace at all
     (
         1,
         (
             &[(None, "")],
             WORDS,
-            BatchVerdict::Undecided,
+            Answer::Undecided,
             "traces 0 violations 0 refused 0\n",
             "TOO FEW JUDGED 0 required 1\n",
         ),
@@ -72,34 +69,31 @@ pub(super) const CASES: [RequiredCase; 16] = [
         (
             &[(None, "end\n")],
             WORDS,
-            BatchVerdict::Refused,
+            Answer::Refused,
             "trace 1 REFUSED BadHeader line 1\ntraces 1 violations 0 refused 1\n",
             "TOO FEW JUDGED 0 required 1\n",
         ),
     ),
     // a violation was judged, and is worse
-    (
-        2,
-        (&[(None, STREAM)], WORDS, BatchVerdict::Violation, TEXT, ""),
-    ),
+    (2, (&[(None, STREAM)], WORDS, Answer::Violation, TEXT, "")),
     (
         3,
         (
             &[(None, STREAM)],
             WORDS,
-            BatchVerdict::Violation,
+            Answer::Violation,
             TEXT,
             "TOO FEW JUDGED 2 required 3\n",
         ),
     ),
     // those of all texts count
-    (3, (&THREE, WORDS, BatchVerdict::Violation, LINES, "")),
+    (3, (&THREE, WORDS, Answer::Violation, LINES, "")),
     (
         4,
         (
             &THREE,
             WORDS,
-            BatchVerdict::Violation,
+            Answer::Violation,
             LINES,
             "TOO FEW JUDGED 3 required 4\n",
         ),
@@ -110,7 +104,7 @@ pub(super) const CASES: [RequiredCase; 16] = [
         (
             &[(None, UNORDERED)],
             UNDECIDED_QUIET,
-            BatchVerdict::Undecided,
+            Answer::Undecided,
             "trace 1 UNDECIDED 0\ntraces 1 consistent 0 violations 0 undecided 1 refused 0\n",
             "TOO FEW JUDGED 0 required 1\n",
         ),
@@ -120,7 +114,7 @@ pub(super) const CASES: [RequiredCase; 16] = [
         (
             &[(None, TRACE)],
             UNDECIDED_QUIET,
-            BatchVerdict::NoViolation,
+            Answer::Clear,
             DECIDED_LINE,
             "",
         ),
@@ -130,7 +124,7 @@ pub(super) const CASES: [RequiredCase; 16] = [
         (
             &[(None, TRACE)],
             UNDECIDED_QUIET,
-            BatchVerdict::Undecided,
+            Answer::Undecided,
             DECIDED_LINE,
             "TOO FEW JUDGED 1 required 2\n",
         ),
@@ -140,7 +134,7 @@ pub(super) const CASES: [RequiredCase; 16] = [
         (
             &[(None, decided::STREAM)],
             UNDECIDED_QUIET,
-            BatchVerdict::Violation,
+            Answer::Violation,
             DECIDED_LINES,
             "",
         ),
@@ -150,7 +144,7 @@ pub(super) const CASES: [RequiredCase; 16] = [
         (
             &[(None, decided::STREAM)],
             UNDECIDED_QUIET,
-            BatchVerdict::Violation,
+            Answer::Violation,
             DECIDED_LINES,
             "TOO FEW JUDGED 2 required 3\n",
         ),
@@ -161,7 +155,7 @@ pub(super) const CASES: [RequiredCase; 16] = [
         (
             &[(None, SIX)],
             VIOLATIONS,
-            BatchVerdict::Violation,
+            Answer::Violation,
             TWO_VIOLATIONS,
             "kept 1 trace 2\nkept 2 trace 5\ntraces 6 violations 2 refused 3\n",
         ),
@@ -171,7 +165,7 @@ pub(super) const CASES: [RequiredCase; 16] = [
         (
             &[(None, SIX)],
             VIOLATIONS_JSON,
-            BatchVerdict::Violation,
+            Answer::Violation,
             TWO_VIOLATIONS,
             "{\"kept\":1,\"trace\":2}\n{\"kept\":2,\"trace\":5}\n{\"traces\":6,\"violations\":2,\"refused\":3}\nTOO FEW JUDGED 3 required 4\n",
         ),
@@ -181,7 +175,7 @@ pub(super) const CASES: [RequiredCase; 16] = [
         (
             &[(None, TRACE)],
             JSON,
-            BatchVerdict::Undecided,
+            Answer::Undecided,
             "{\"trace\":1,\"verdict\":\"no_violation_found\"}\n{\"traces\":1,\"violations\":0,\"refused\":0}\n",
             "TOO FEW JUDGED 1 required 18446744073709551615\n",
         ),
@@ -191,7 +185,7 @@ pub(super) const CASES: [RequiredCase; 16] = [
         (
             &[(None, "")],
             JUNIT,
-            BatchVerdict::Undecided,
+            Answer::Undecided,
             "<?xml version=\"1.0\" encoding=\"UTF-8\"?>\n<testsuites>\n<testsuite name=\"tsobench batch\" tests=\"0\" failures=\"0\" errors=\"0\" skipped=\"0\"><system-out>traces 0 violations 0 refused 0</system-out></testsuite>\n</testsuites>\n",
             "TOO FEW JUDGED 0 required 1\n",
         ),

@@ -3,7 +3,8 @@
 use super::{
     Case, JSON, LINES, OTHER, QUIET, SIX, STREAM, THREE, TWO_VIOLATIONS, VIOLATIONS, WORDS,
 };
-use trace_batches::{BatchFormat, BatchMethod, BatchPrinting, BatchVerdict};
+use trace_batches::{BatchFormat, BatchMethod, BatchPrinting};
+use trace_reports::Answer;
 
 const QUIET_VIOLATIONS: BatchPrinting = BatchPrinting {
     method: BatchMethod::Judge,
@@ -24,11 +25,11 @@ pub(super) const VIOLATIONS_JSON: BatchPrinting = BatchPrinting {
 /// Texts with names, and of violations.
 pub(super) static CASES: [Case; 10] = [
     // lines have names, numbers begin anew in each text, and the last line counts all
-    (&THREE, WORDS, BatchVerdict::Violation, LINES, ""),
+    (&THREE, WORDS, Answer::Violation, LINES, ""),
     (
         &THREE,
         JSON,
-        BatchVerdict::Violation,
+        Answer::Violation,
         "{\"file\":\"a\",\"trace\":1,\"verdict\":\"no_violation_found\"}\n{\"file\":\"a\",\"trace\":2,\"verdict\":\"violation\"}\n{\"file\":\"a\",\"trace\":3,\"verdict\":\"refused\",\"name\":\"BadNumber\",\"line\":3}\n{\"file\":\"b/c.trace\",\"trace\":1,\"verdict\":\"refused\",\"name\":\"BeforeProc\",\"line\":2}\n{\"file\":\"b/c.trace\",\"trace\":2,\"verdict\":\"violation\"}\n{\"traces\":5,\"violations\":2,\"refused\":2}\n",
         "",
     ),
@@ -36,14 +37,14 @@ pub(super) static CASES: [Case; 10] = [
     (
         &[(None, STREAM), (Some("-"), OTHER)],
         WORDS,
-        BatchVerdict::Violation,
+        Answer::Violation,
         "trace 1 NO VIOLATION FOUND\ntrace 2 VIOLATION\ntrace 3 REFUSED BadNumber line 3\n-: trace 1 REFUSED BeforeProc line 2\n-: trace 2 VIOLATION\ntraces 5 violations 2 refused 2\n",
         "",
     ),
     (
         &THREE,
         QUIET,
-        BatchVerdict::Violation,
+        Answer::Violation,
         "a: trace 2 VIOLATION\na: trace 3 REFUSED BadNumber line 3\nb/c.trace: trace 1 REFUSED BeforeProc line 2\nb/c.trace: trace 2 VIOLATION\ntraces 5 violations 2 refused 2\n",
         "",
     ),
@@ -51,14 +52,14 @@ pub(super) static CASES: [Case; 10] = [
     (
         &THREE,
         VIOLATIONS,
-        BatchVerdict::Violation,
+        Answer::Violation,
         TWO_VIOLATIONS,
         "a: kept 1 trace 2\nb/c.trace: kept 2 trace 2\ntraces 5 violations 2 refused 2\n",
     ),
     (
         &THREE,
         VIOLATIONS_JSON,
-        BatchVerdict::Violation,
+        Answer::Violation,
         TWO_VIOLATIONS,
         "{\"file\":\"a\",\"kept\":1,\"trace\":2}\n{\"file\":\"b/c.trace\",\"kept\":2,\"trace\":2}\n{\"traces\":5,\"violations\":2,\"refused\":2}\n",
     ),
@@ -69,21 +70,21 @@ pub(super) static CASES: [Case; 10] = [
             (Some("b"), "end\ntso trace 1\nproc\nld 1 9\nend\n"),
         ],
         WORDS,
-        BatchVerdict::Violation,
+        Answer::Violation,
         "a: trace 1 REFUSED MissingEnd line 4\nb: trace 1 REFUSED BadHeader line 1\nb: trace 2 VIOLATION\ntraces 3 violations 1 refused 2\n",
         "",
     ),
     (
         &[(None, SIX)],
         VIOLATIONS,
-        BatchVerdict::Violation,
+        Answer::Violation,
         TWO_VIOLATIONS,
         "kept 1 trace 2\nkept 2 trace 5\ntraces 6 violations 2 refused 3\n",
     ),
     (
         &[(None, SIX)],
         QUIET_VIOLATIONS,
-        BatchVerdict::Violation,
+        Answer::Violation,
         TWO_VIOLATIONS,
         "kept 1 trace 2\nkept 2 trace 5\ntraces 6 violations 2 refused 3\n",
     ),
@@ -91,7 +92,7 @@ pub(super) static CASES: [Case; 10] = [
     (
         &[(None, TWO_VIOLATIONS)],
         WORDS,
-        BatchVerdict::Violation,
+        Answer::Violation,
         "trace 1 VIOLATION\ntrace 2 VIOLATION\ntraces 2 violations 2 refused 0\n",
         "",
     ),

@@ -1,7 +1,8 @@
 //! Streams, how they are cut, and what is written of their pieces.
 
 use super::{Case, DOCUMENT, JSON, JUNIT, QUIET, STREAM, TEXT, WORDS};
-use trace_batches::{BatchFormat, BatchMethod, BatchPrinting, BatchVerdict};
+use trace_batches::{BatchFormat, BatchMethod, BatchPrinting};
+use trace_reports::Answer;
 
 const QUIET_JSON: BatchPrinting = BatchPrinting {
     method: BatchMethod::Judge,
@@ -41,7 +42,7 @@ pub(super) static CASES: [Case; 19] = [
     (
         &[(None, "")],
         WORDS,
-        BatchVerdict::NoViolation,
+        Answer::Clear,
         "traces 0 violations 0 refused 0\n",
         "",
     ),
@@ -49,7 +50,7 @@ pub(super) static CASES: [Case; 19] = [
     (
         &[(None, "end\n")],
         WORDS,
-        BatchVerdict::Refused,
+        Answer::Refused,
         "trace 1 REFUSED BadHeader line 1\ntraces 1 violations 0 refused 1\n",
         "",
     ),
@@ -57,7 +58,7 @@ pub(super) static CASES: [Case; 19] = [
     (
         &[(None, "tso trace 1\nend \nend\n")],
         WORDS,
-        BatchVerdict::Refused,
+        Answer::Refused,
         "trace 1 REFUSED BadLine line 2\ntraces 1 violations 0 refused 1\n",
         "",
     ),
@@ -65,7 +66,7 @@ pub(super) static CASES: [Case; 19] = [
     (
         &[(None, "tso trace 1\nends\nend\n")],
         WORDS,
-        BatchVerdict::Refused,
+        Answer::Refused,
         "trace 1 REFUSED BadLine line 2\ntraces 1 violations 0 refused 1\n",
         "",
     ),
@@ -73,7 +74,7 @@ pub(super) static CASES: [Case; 19] = [
     (
         &[(None, "tso trace 1\nxend\nend\n")],
         WORDS,
-        BatchVerdict::Refused,
+        Answer::Refused,
         "trace 1 REFUSED BadLine line 2\ntraces 1 violations 0 refused 1\n",
         "",
     ),
@@ -81,7 +82,7 @@ pub(super) static CASES: [Case; 19] = [
     (
         &[(None, "tso trace 1\nend\ntso trace 1\nproc\n")],
         WORDS,
-        BatchVerdict::Refused,
+        Answer::Refused,
         "trace 1 NO VIOLATION FOUND\ntrace 2 REFUSED MissingEnd line 3\ntraces 2 violations 0 refused 1\n",
         "",
     ),
@@ -89,7 +90,7 @@ pub(super) static CASES: [Case; 19] = [
     (
         &[(None, "tso trace 1\nend\ntso trace 1\nend")],
         WORDS,
-        BatchVerdict::Refused,
+        Answer::Refused,
         "trace 1 NO VIOLATION FOUND\ntrace 2 REFUSED BadLine line 2\ntraces 2 violations 0 refused 1\n",
         "",
     ),
@@ -100,7 +101,7 @@ pub(super) static CASES: [Case; 19] = [
             "tso trace 1\nend\n\ntso trace 1\nend\ntso trace 1\nend\n",
         )],
         WORDS,
-        BatchVerdict::Refused,
+        Answer::Refused,
         "trace 1 NO VIOLATION FOUND\ntrace 2 REFUSED BadHeader line 1\ntrace 3 NO VIOLATION FOUND\ntraces 3 violations 0 refused 1\n",
         "",
     ),
@@ -108,7 +109,7 @@ pub(super) static CASES: [Case; 19] = [
     (
         &[(None, "\nend\ntso trace 1\nproc\nld 1 9\nend\n")],
         WORDS,
-        BatchVerdict::Violation,
+        Answer::Violation,
         "trace 1 REFUSED BadHeader line 1\ntrace 2 VIOLATION\ntraces 2 violations 1 refused 1\n",
         "",
     ),
@@ -118,29 +119,29 @@ pub(super) static CASES: [Case; 19] = [
             "tso trace 1\nend\ntso trace 1\nproc\nld 1 9\nend\ntso trace 1\nend\nend\n",
         )],
         QUIET,
-        BatchVerdict::Violation,
+        Answer::Violation,
         "trace 2 VIOLATION\ntrace 4 REFUSED BadHeader line 1\ntraces 4 violations 1 refused 1\n",
         "",
     ),
     (
         &[(None, "tso trace 1\nend\ntso trace 1\nend\n")],
         QUIET,
-        BatchVerdict::NoViolation,
+        Answer::Clear,
         "traces 2 violations 0 refused 0\n",
         "",
     ),
-    (&[(None, STREAM)], WORDS, BatchVerdict::Violation, TEXT, ""),
+    (&[(None, STREAM)], WORDS, Answer::Violation, TEXT, ""),
     (
         &[(None, STREAM)],
         JSON,
-        BatchVerdict::Violation,
+        Answer::Violation,
         "{\"trace\":1,\"verdict\":\"no_violation_found\"}\n{\"trace\":2,\"verdict\":\"violation\"}\n{\"trace\":3,\"verdict\":\"refused\",\"name\":\"BadNumber\",\"line\":3}\n{\"traces\":3,\"violations\":1,\"refused\":1}\n",
         "",
     ),
     (
         &[(None, STREAM)],
         QUIET_JSON,
-        BatchVerdict::Violation,
+        Answer::Violation,
         "{\"trace\":2,\"verdict\":\"violation\"}\n{\"trace\":3,\"verdict\":\"refused\",\"name\":\"BadNumber\",\"line\":3}\n{\"traces\":3,\"violations\":1,\"refused\":1}\n",
         "",
     ),
@@ -148,21 +149,15 @@ pub(super) static CASES: [Case; 19] = [
     (
         &[(None, STREAM)],
         VIOLATIONS_JSON,
-        BatchVerdict::Violation,
+        Answer::Violation,
         "tso trace 1\nproc\nld 1 9\nend\n",
         "{\"kept\":1,\"trace\":2}\n{\"traces\":3,\"violations\":1,\"refused\":1}\n",
     ),
-    (
-        &[(None, STREAM)],
-        JUNIT,
-        BatchVerdict::Violation,
-        DOCUMENT,
-        "",
-    ),
+    (&[(None, STREAM)], JUNIT, Answer::Violation, DOCUMENT, ""),
     (
         &[(None, STREAM)],
         QUIET_JUNIT,
-        BatchVerdict::Violation,
+        Answer::Violation,
         "<?xml version=\"1.0\" encoding=\"UTF-8\"?>\n<testsuites>\n<testsuite name=\"batch trace 2\" tests=\"1\" failures=\"1\" errors=\"0\" skipped=\"0\"><testcase classname=\"batch\" name=\"trace 2\"><failure message=\"VIOLATION\">TSO REPORT 1&#10;processors 1 events 1 rounds 0&#10;VIOLATION&#10;&#10;A load read a value that nothing wrote to its address:&#10;&#10;  line 3: P0 'ld 1 9' (1) read 9&#10;&#10;The first value of address 1 is 0.&#10;No operation stores to address 1.&#10;</failure></testcase></testsuite>\n<testsuite name=\"batch trace 3\" tests=\"1\" failures=\"0\" errors=\"1\" skipped=\"0\"><testcase classname=\"batch\" name=\"trace 3\"><error message=\"REFUSED BadNumber line 3\"/></testcase></testsuite>\n<testsuite name=\"tsobench batch\" tests=\"0\" failures=\"0\" errors=\"0\" skipped=\"0\"><system-out>traces 3 violations 1 refused 1</system-out></testsuite>\n</testsuites>\n",
         "",
     ),
@@ -170,14 +165,14 @@ pub(super) static CASES: [Case; 19] = [
     (
         &[(None, STREAM)],
         VIOLATIONS_JUNIT,
-        BatchVerdict::Violation,
+        Answer::Violation,
         "tso trace 1\nproc\nld 1 9\nend\n",
         "kept 1 trace 2\ntraces 3 violations 1 refused 1\n",
     ),
     (
         &[(None, "")],
         JUNIT,
-        BatchVerdict::NoViolation,
+        Answer::Clear,
         "<?xml version=\"1.0\" encoding=\"UTF-8\"?>\n<testsuites>\n<testsuite name=\"tsobench batch\" tests=\"0\" failures=\"0\" errors=\"0\" skipped=\"0\"><system-out>traces 0 violations 0 refused 0</system-out></testsuite>\n</testsuites>\n",
         "",
     ),

@@ -4,7 +4,7 @@ use super::required::RequiredCase;
 use super::several::VIOLATIONS_JSON;
 use super::streams::VIOLATIONS_JUNIT;
 use super::{Case, JSON, JUNIT, OTHER, QUIET, STREAM, UNREAD, VIOLATIONS, WORDS};
-use trace_batches::BatchVerdict;
+use trace_reports::Answer;
 
 /// A trace without a violation.
 const TRACE: &str = "tso trace 1\nproc\nst 1 1\nld 1 1\nend\n";
@@ -13,7 +13,7 @@ const TRACE: &str = "tso trace 1\nproc\nst 1 1\nld 1 1\nend\n";
 pub(super) const AMONG_OTHERS: Case = (
     &[(Some("a"), TRACE), (Some("b"), UNREAD), (Some("c"), TRACE)],
     WORDS,
-    BatchVerdict::Unread,
+    Answer::Unread,
     "a: trace 1 NO VIOLATION FOUND\nb: FAULT Read\nc: trace 1 NO VIOLATION FOUND\ntraces 2 violations 0 refused 0\n",
     "FAULT Read\n",
 );
@@ -25,14 +25,14 @@ pub(super) static CASES: [Case; 10] = [
     (
         &[(None, UNREAD)],
         WORDS,
-        BatchVerdict::Unread,
+        Answer::Unread,
         "FAULT Read\ntraces 0 violations 0 refused 0\n",
         "FAULT Read\n",
     ),
     (
         &[(None, UNREAD)],
         JSON,
-        BatchVerdict::Unread,
+        Answer::Unread,
         "{\"fault\":\"Read\"}\n{\"traces\":0,\"violations\":0,\"refused\":0}\n",
         "FAULT Read\n",
     ),
@@ -44,14 +44,14 @@ pub(super) static CASES: [Case; 10] = [
             (Some("e"), TRACE),
         ],
         JSON,
-        BatchVerdict::Unread,
+        Answer::Unread,
         "{\"file\":\"a\\\"b\",\"fault\":\"Read\"}\n{\"file\":\"c\\u000ad\",\"fault\":\"Read\"}\n{\"file\":\"e\",\"trace\":1,\"verdict\":\"no_violation_found\"}\n{\"traces\":1,\"violations\":0,\"refused\":0}\n",
         "FAULT Read\n",
     ),
     (
         &[(Some("a&b"), UNREAD), (Some("e"), TRACE)],
         JUNIT,
-        BatchVerdict::Unread,
+        Answer::Unread,
         "<?xml version=\"1.0\" encoding=\"UTF-8\"?>\n<testsuites>\n<testsuite name=\"a&amp;b text\" tests=\"1\" failures=\"0\" errors=\"1\" skipped=\"0\"><testcase classname=\"a&amp;b\" name=\"text\"><error message=\"FAULT Read\"/></testcase></testsuite>\n<testsuite name=\"e trace 1\" tests=\"1\" failures=\"0\" errors=\"0\" skipped=\"0\"><testcase classname=\"e\" name=\"trace 1\"/></testsuite>\n<testsuite name=\"tsobench batch\" tests=\"0\" failures=\"0\" errors=\"0\" skipped=\"0\"><system-out>traces 1 violations 0 refused 0</system-out></testsuite>\n</testsuites>\n",
         "FAULT Read\n",
     ),
@@ -59,7 +59,7 @@ pub(super) static CASES: [Case; 10] = [
     (
         &[(Some("a"), STREAM), (Some("b"), UNREAD)],
         QUIET,
-        BatchVerdict::Unread,
+        Answer::Unread,
         "a: trace 2 VIOLATION\na: trace 3 REFUSED BadNumber line 3\nb: FAULT Read\ntraces 3 violations 1 refused 1\n",
         "FAULT Read\n",
     ),
@@ -67,28 +67,28 @@ pub(super) static CASES: [Case; 10] = [
     (
         &[(Some("a"), STREAM), (Some("b"), UNREAD), (Some("c"), OTHER)],
         VIOLATIONS,
-        BatchVerdict::Unread,
+        Answer::Unread,
         "tso trace 1\nproc\nld 1 9\nend\ntso trace 1\nproc\nld 2 7\nmb\nend\n",
         "a: kept 1 trace 2\nb: FAULT Read\nc: kept 2 trace 2\ntraces 5 violations 2 refused 2\nFAULT Read\n",
     ),
     (
         &[(Some("b"), UNREAD), (Some("c"), OTHER)],
         VIOLATIONS_JSON,
-        BatchVerdict::Unread,
+        Answer::Unread,
         "tso trace 1\nproc\nld 2 7\nmb\nend\n",
         "{\"file\":\"b\",\"fault\":\"Read\"}\n{\"file\":\"c\",\"kept\":1,\"trace\":2}\n{\"traces\":2,\"violations\":1,\"refused\":1}\nFAULT Read\n",
     ),
     (
         &[(Some("b&"), UNREAD), (Some("c"), OTHER)],
         VIOLATIONS_JUNIT,
-        BatchVerdict::Unread,
+        Answer::Unread,
         "tso trace 1\nproc\nld 2 7\nmb\nend\n",
         "b&: FAULT Read\nc: kept 1 trace 2\ntraces 2 violations 1 refused 1\nFAULT Read\n",
     ),
     (
         &[(None, UNREAD)],
         VIOLATIONS,
-        BatchVerdict::Unread,
+        Answer::Unread,
         "",
         "FAULT Read\ntraces 0 violations 0 refused 0\nFAULT Read\n",
     ),
@@ -100,7 +100,7 @@ pub(super) const FEW: [RequiredCase; 1] = [(
     (
         &[(Some("a"), TRACE), (Some("b"), UNREAD)],
         WORDS,
-        BatchVerdict::Unread,
+        Answer::Unread,
         "a: trace 1 NO VIOLATION FOUND\nb: FAULT Read\ntraces 1 violations 0 refused 0\n",
         "TOO FEW JUDGED 1 required 2\nFAULT Read\n",
     ),

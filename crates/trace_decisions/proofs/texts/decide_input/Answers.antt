@@ -1,5 +1,5 @@
 use Rattle.std.proofs.Common.{rules, string_bytes}
-use Rattle.trace_judging.proofs.ReaderFacts.{leaves_prefix}
+use Rattle.text_streams.proofs.StreamFacts.{leaves_prefix}
 use Rattle.trace_decisions.specs.DecisionTexts.{IsDecisionOfReader}
 use Rattle.trace_decisions.proofs.DecisionFacts.{decision_of_reader, says_of_input}
 use Rattle.trace_decisions.proofs.texts.decide_input.Given as given

@@ -5,6 +5,6 @@ use Rattle.trace_judging.proofs.findings.find_by_ranks.Goals as goal
 
 pub returns-clause-found : goal.returns-clause-found
 returns-clause-found g c = record {
-  rounds = subst (IsRounds c.args.trace.now) (sym c.rounds.ensures) c.in_ok-ranked.ensures.rounds;
+  rounds = subst (IsRounds c.args.trace.now) (sym c.rounds.ensures) c.in_ok-ranked.ensures.ranked.rounds;
   certificate = finding_written c.args.trace.now c.in_ok-build_cert.field-0 c.requires.written c.in_ok-build_cert.ensures;
 }

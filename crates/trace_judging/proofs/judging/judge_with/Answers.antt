@@ -1,8 +1,8 @@
 use Rattle.std.proofs.Common.{rules, string_bytes}
-use Rattle.trace_judging.specs.Limits.{trace_read_limit}
+use Rattle.trace_streams.specs.Limits.{trace_read_limit}
 use Rattle.trace_reports.specs.Renderings.{IsTextOfReader}
-use Rattle.trace_judging.proofs.ReaderFacts.{leaves_prefix, no_order_of_reader, text_of_reader, violation_of_reader}
-use Rattle.trace_judging.proofs.StreamFacts.{loses_prefix}
+use Rattle.trace_judging.proofs.ReaderFacts.{no_order_of_reader, text_of_reader, violation_of_reader}
+use Rattle.text_streams.proofs.StreamFacts.{leaves_prefix, loses_prefix}
 use Rattle.trace_judging.proofs.judging.judge_with.Given as given
 use Rattle.trace_judging.proofs.judging.judge_with.Goals as goal
 

@@ -1,5 +1,5 @@
-use Rattle.trace_judging.specs.Limits.{trace_read_limit}
-use Rattle.trace_judging.proofs.StreamFacts.{loses_prefix}
+use Rattle.trace_streams.specs.Limits.{trace_read_limit}
+use Rattle.text_streams.proofs.StreamFacts.{loses_prefix}
 use Rattle.trace_reduction.proofs.ReductionFacts.{on_ok, reduction_read}
 use Rattle.trace_reduction.proofs.reports.read_reduction.Goals as goal
 

@@ -4,8 +4,8 @@ use Rattle.std.specs.List.{list_any}
 use Rattle.tso_ops.specs.Values.{rows}
 use Rattle.tso_report.specs.Campaigns.{IsCampaign, LeavesCampaign, verdict_of}
 use Rattle.tso_report.specs.Internal.Gathering.{AreKnown, text_by}
-use Rattle.trace_judging.specs.Streams.{AppendsPrefix}
-use Rattle.trace_judging.specs.WrittenReports.{WritesPrefix}
+use Rattle.text_streams.specs.Streams.{AppendsPrefix}
+use Rattle.text_streams.specs.WrittenTexts.{WritesPrefix}
 use Rattle.tso_report.proofs.CampaignFacts.{came-all, campaign_by, known_count}
 use Rattle.tso_report.proofs.campaigns.campaign_of.Goals as goal
 

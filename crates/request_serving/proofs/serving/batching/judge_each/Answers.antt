@@ -7,8 +7,8 @@ use Rattle.trace_batches.specs.Batches.{HasWritten, LeavesBatch}
 use Rattle.trace_batches.proofs.WholeFacts.{whatever}
 use Rattle.request_serving.specs.Batches.{are_several, asked_printing}
 use Rattle.request_serving.specs.Internal.Batching.{files_in}
-use Rattle.request_serving.specs.OpenedFiles.{OpensFirst, OpensNext}
-use Rattle.request_serving.proofs.EndFacts.{opens_all, opens_none}
+use Rattle.request_texts.specs.OpenedFiles.{OpensFirst, OpensNext}
+use Rattle.request_texts.proofs.KnownFacts.{opens_all, opens_none}
 use Rattle.request_serving.proofs.BatchingFacts.{AreJudged, files_at, files_more, next_judged, next_left, no_file, none_judged, none_left, of_all, of_file, first_opened, unread_so_far}
 use Rattle.request_serving.proofs.serving.batching.judge_each.Goals as goal
 

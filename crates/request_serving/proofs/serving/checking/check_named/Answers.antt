@@ -1,4 +1,6 @@
-use Rattle.request_serving.proofs.EndFacts.{check_of_known, faults_as, knows_itself, opens_all, opens_both, writes_as}
+use Rattle.request_serving.proofs.EndFacts.{check_of_known}
+use Rattle.text_streams.proofs.StreamFacts.{faults_as, writes_as}
+use Rattle.request_texts.proofs.KnownFacts.{knows_itself, opens_all, opens_both}
 use Rattle.request_serving.proofs.serving.checking.check_named.Goals as goal
 
 pub returns-in_ok-certificate-in-Files-clause-report : goal.returns-in_ok-certificate-in-Files-clause-report

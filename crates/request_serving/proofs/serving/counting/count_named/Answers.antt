@@ -1,5 +1,6 @@
 use Rattle.unit_core.proofs.RecordFacts.{holds_ok}
-use Rattle.request_serving.proofs.EndFacts.{faults_as, knows_itself, opens_all, opens_both, writes_as}
+use Rattle.text_streams.proofs.StreamFacts.{faults_as, writes_as}
+use Rattle.request_texts.proofs.KnownFacts.{knows_itself, opens_all, opens_both}
 use Rattle.request_serving.proofs.OutcomeFacts.{seen_of_known}
 use Rattle.request_serving.proofs.serving.counting.count_named.Goals as goal
 

@@ -1,5 +1,5 @@
 use Rattle.request_serving.proofs.DecidingFacts.{decided_of_known}
-use Rattle.request_serving.proofs.EndFacts.{faults_as, writes_as}
+use Rattle.text_streams.proofs.StreamFacts.{faults_as, writes_as}
 use Rattle.request_serving.proofs.serving.deciding.decide_named.Goals as goal
 
 pub returns-in_ok-file-in-Some-clause-decided : goal.returns-in_ok-file-in-Some-clause-decided

@@ -1,4 +1,5 @@
-use Rattle.request_serving.proofs.EndFacts.{faults_as, presented_of_known, writes_as}
+use Rattle.request_serving.proofs.EndFacts.{presented_of_known}
+use Rattle.text_streams.proofs.StreamFacts.{faults_as, writes_as}
 use Rattle.request_serving.proofs.serving.judging.judge_named.Goals as goal
 
 pub returns-in_ok-file-in-Some-clause-presented : goal.returns-in_ok-file-in-Some-clause-presented

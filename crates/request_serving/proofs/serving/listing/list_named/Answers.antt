@@ -1,5 +1,5 @@
 use Rattle.request_serving.specs.Outcomes.{asked_outcomes}
-use Rattle.request_serving.proofs.EndFacts.{faults_as, writes_as}
+use Rattle.text_streams.proofs.StreamFacts.{faults_as, writes_as}
 use Rattle.request_serving.proofs.OutcomeFacts.{outcomes_of_known}
 use Rattle.request_serving.proofs.serving.listing.list_named.Goals as goal
 

@@ -1,4 +1,4 @@
-use Rattle.request_serving.proofs.EndFacts.{faults_as, writes_as}
+use Rattle.text_streams.proofs.StreamFacts.{faults_as, writes_as}
 use Rattle.request_serving.proofs.LoggingFacts.{logged_of_known}
 use Rattle.request_serving.specs.Logs.{options_of}
 use Rattle.request_serving.proofs.serving.logging.log_named.Goals as goal

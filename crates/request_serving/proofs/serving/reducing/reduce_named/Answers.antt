@@ -1,4 +1,4 @@
-use Rattle.request_serving.proofs.EndFacts.{faults_as, writes_as}
+use Rattle.text_streams.proofs.StreamFacts.{faults_as, writes_as}
 use Rattle.request_serving.proofs.ReducingFacts.{reduced_of_known}
 use Rattle.request_serving.proofs.serving.reducing.reduce_named.Goals as goal
 

@@ -1,3 +1,0 @@
-pub mod ClosedOrderFacts
-pub mod ModelOrderFacts
-pub mod SwapProcessors

@@ -1,0 +1,5 @@
+pub mod ClosedOrders
+pub mod EventOrders
+pub mod Evidence
+pub mod RecordedTraces
+pub mod SwapsTogether

@@ -1,2 +1,0 @@
-pub mod EventOrders
-pub mod Evidence

@@ -1,2 +1,0 @@
-pub mod RecordedTraces
-pub mod SwapsTogether

@@ -1,0 +1,2 @@
+pub mod NthTraces
+pub mod OpenedFiles

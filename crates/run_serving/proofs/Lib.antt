@@ -1,0 +1,4 @@
+pub mod CampaigningFacts
+pub mod RepeatingFacts
+pub mod ReplayingFacts
+pub mod RunningFacts

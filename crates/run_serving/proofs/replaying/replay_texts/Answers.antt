@@ -1,0 +1,24 @@
+use Rattle.std.proofs.Common.{inl, inr}
+use Rattle.std.proofs.lemmas.Result.{IfOk-weaker}
+use Rattle.tso_text.proofs.TextLaws.{program_laws}
+use Rattle.run_serving.specs.Replaying.{IsScheduledText}
+use Rattle.trace_streams.proofs.InputFacts.{not_refused_program}
+use Rattle.run_serving.proofs.ReplayingFacts.{printed_as}
+use Rattle.run_serving.proofs.replaying.replay_texts.Goals as goal
+
+pub returns-in-Ok-clause-text : goal.returns-in-Ok-clause-text
+returns-in-Ok-clause-text g c =
+    let prints = IsScheduledText c.args.options.now (g.S.Read.remaining c.args.schedules.now) in
+    IfOk-weaker c.replay_program.result _ _
+    (λ printed is. printed_as program_laws prints (g.P.Read.remaining c.args.programs.now) _ _ printed.text.items printed.status c.in_ok-input.ensures.prefix c.deref.ensures.value (inl (c.in-Ok.program, c.in-Ok.ensures.found, is)))
+    c.replay_program.ensures.text
+
+pub returns-clause-text : goal.returns-clause-text
+returns-clause-text g c =
+    let told = c.in_ok-print_refusal-in-Err.ensures in
+    printed_as program_laws (IsScheduledText c.args.options.now (g.S.Read.remaining c.args.schedules.now)) (g.P.Read.remaining c.args.programs.now) _ _ _ _ c.in_ok-input.ensures.prefix c.deref.ensures.value
+    (inr (c.in-Err.fault.line, c.in-Err.fault.why, c.in-Err.ensures.refused told.0, told.1, told.2))
+
+pub returns-in-Ok-clause-unread : goal.returns-in-Ok-clause-unread
+returns-in-Ok-clause-unread g c =
+    not_refused_program _ (g.P.Read.remaining c.args.programs.now) _ _ c.in-Ok.program c.in_ok-input.ensures.prefix c.deref.ensures.value c.in-Ok.ensures.found

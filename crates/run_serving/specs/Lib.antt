@@ -1,0 +1,9 @@
+pub mod BenchUnits
+pub mod Campaigning
+pub mod FailedRuns
+pub mod Failures
+pub mod MadePrograms
+pub mod Printing
+pub mod Ranges
+pub mod Replaying
+pub mod Running

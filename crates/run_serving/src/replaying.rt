@@ -1,0 +1,157 @@
+//! `replay`: a program is read, and then a schedule by which it is run; what was recorded is judged or printed.
+ghost use Rattle.std.specs.Prelude.{◌≡◌, ◌⊎◌, ◌≤◌, [], ◌∷◌, IfOk, IfErr, IfSome, OnOk, true, false};
+ghost use Rattle.command_line.specs.Requests.{asked_of, files_of};
+ghost use Rattle.command_line.specs.declared.requests.Request.TheVariants.{Replay};
+ghost use Rattle.text_streams.specs.declared.faults.Fault.{Fault};
+ghost use Rattle.trace_streams.specs.Limits.{trace_read_limit};
+ghost use Rattle.text_streams.specs.Streams.{LosesPrefix};
+ghost use Rattle.text_streams.specs.WrittenTexts.{LeavesAtFault, WritesWhole};
+ghost use Rattle.tso_text.specs.Refusals.{IsRefusedProgram};
+ghost use Rattle.trace_judging.specs.Limits.{HasWorkerRange};
+ghost use Rattle.run_serving.specs.Ranges.{AreInRange};
+ghost use Rattle.request_texts.specs.OpenedFiles.{HasRefusedFirstText, OpensFirst, OpensNext, TakesInput, files_named, reads_input, text_bytes};
+ghost use Rattle.run_serving.specs.Printing.{unit_of};
+ghost use Rattle.run_serving.specs.Replaying.{IsReplayOf, IsReplayText, IsScheduledText};
+
+use crate::printing::{Printed, print_record, print_refusal};
+use crate::units::make_unit;
+use command_line::{RunOptions, TextPair};
+use request_texts::{Surroundings, open};
+use std::io::{Read, Write};
+use std::sync::Wait;
+use std::thread::Threads;
+use text_streams::{Fault, read_all, write_text};
+use tso_ops::Program;
+use tso_text::{Act, MAX_TEXT_BYTES, read_program, read_schedule};
+use unit_core::{Account, MemoryUnit, replay};
+
+/// Replays a program, the first text, by a schedule, the second, and writes what the options ask for: the status. Their
+/// files are opened before one is read.
+pub fn replay_named<H: Threads + Wait + AllocGlobal, O: Surroundings, R: Read, W: Write>(
+    rt: &H,
+    options: &RunOptions,
+    texts: TextPair<'_>,
+    files: &mut O,
+    reader: &mut R,
+    writer: &mut W,
+) -> Result<u8, Fault>
+    requires ranges { AreInRange options.now }
+    ensures text { let programs = text_bytes (files_of texts.entry).0 (R.remaining reader.old) (O.bytes files.old) in let schedules = text_bytes (files_of texts.entry).1 (R.remaining reader.old) (O.bytes files.old) in IfOk result (WritesWhole (IsReplayText options.now programs schedules) (W.contents writer.old) (W.contents writer.new)) }
+    ensures fault { let programs = text_bytes (files_of texts.entry).0 (R.remaining reader.old) (O.bytes files.old) in let schedules = text_bytes (files_of texts.entry).1 (R.remaining reader.old) (O.bytes files.old) in IfErr result (LeavesAtFault (IsReplayText options.now programs schedules) (W.contents writer.old) (W.contents writer.new)) }
+    ensures first { OpensFirst (O.opened files.old) (O.opened files.new) (files_named (asked_of (Replay options.now texts.entry))) }
+    ensures opened { OnOk result (OpensNext (O.opened files.old) (O.opened files.new) (files_named (asked_of (Replay options.now texts.entry)))) }
+    ensures unread { reads_input (asked_of (Replay options.now texts.entry)) ≡ false → reader.new ≡ reader.old }
+    ensures unread_after_refusal { HasRefusedFirstText (asked_of (Replay options.now texts.entry)) (O.bytes files.old) → reader.new ≡ reader.old }
+    ensures taken { reads_input (asked_of (Replay options.now texts.entry)) ≡ true → OnOk result (TakesInput (asked_of (Replay options.now texts.entry)) (R.remaining reader.old) (R.remaining reader.new)) }
+{
+    match texts {
+        TextPair::Files(program, schedule) => {
+            let mut program = open(files, program)?;
+            let mut schedule = open(files, schedule)?;
+            write_replay(rt, options, &mut program, &mut schedule, writer)
+        }
+        TextPair::InputAndFile(schedule) => {
+            let mut schedule = open(files, schedule)?;
+            write_replay(rt, options, reader, &mut schedule, writer)
+        }
+        TextPair::FileAndInput(program) => {
+            let mut program = open(files, program)?;
+            write_replay(rt, options, &mut program, reader, writer)
+        }
+    }
+}
+
+/// Replays the program that one reader has by the schedule that another has, and writes what the options ask for.
+fn write_replay<H: Threads + Wait + AllocGlobal, P: Read, S: Read, W: Write>(
+    rt: &H,
+    options: &RunOptions,
+    programs: &mut P,
+    schedules: &mut S,
+    writer: &mut W,
+) -> Result<u8, Fault>
+    requires ranges { AreInRange options.now }
+    ensures text { IfOk result (WritesWhole (IsReplayText options.now (P.remaining programs.old) (S.remaining schedules.old)) (W.contents writer.old) (W.contents writer.new)) }
+    ensures fault { IfErr result (LeavesAtFault (IsReplayText options.now (P.remaining programs.old) (S.remaining schedules.old)) (W.contents writer.old) (W.contents writer.new)) }
+    ensures taken { IfOk result (λ _. LosesPrefix trace_read_limit (P.remaining programs.old) (P.remaining programs.new)) }
+    ensures unread { IfSome (P.remaining programs.old) (λ program. IsRefusedProgram program → schedules.new ≡ schedules.old) }
+    ensures taken_after { IfOk result (λ _. schedules.new ≡ schedules.old ⊎ LosesPrefix trace_read_limit (S.remaining schedules.old) (S.remaining schedules.new)) }
+{
+    let printed = replay_texts(rt, options, programs, schedules)?;
+    write_text(writer, &printed.text)?;
+    Ok(printed.status)
+}
+
+/// What is printed of a replay of the program that one reader has by the schedule that another has. The schedule isn't
+/// read where the program is refused.
+fn replay_texts<H: Threads + Wait + AllocGlobal, P: Read, S: Read>(
+    rt: &H,
+    options: &RunOptions,
+    programs: &mut P,
+    schedules: &mut S,
+) -> Result<Printed, Fault>
+    requires ranges { AreInRange options.now }
+    ensures text { IfOk result (λ printed. IsReplayText options.now (P.remaining programs.old) (S.remaining schedules.old) printed.text.items printed.status) }
+    ensures taken { IfOk result (λ _. LosesPrefix trace_read_limit (P.remaining programs.old) (P.remaining programs.new)) }
+    ensures unread { IfSome (P.remaining programs.old) (λ program. IsRefusedProgram program → schedules.new ≡ schedules.old) }
+    ensures taken_after { IfOk result (λ _. schedules.new ≡ schedules.old ⊎ LosesPrefix trace_read_limit (S.remaining schedules.old) (S.remaining schedules.new)) }
+    ensures fault { IfErr result (λ fault. (fault ≡ Fault.OutOfMemory) ⊎ ((fault ≡ Fault.Read) ⊎ (fault ≡ Fault.NoThread))) }
+{
+    let input = read_all(rt.alloc(), programs, MAX_TEXT_BYTES)?;
+    match read_program(rt.alloc(), &input) {
+        Ok(program) => replay_program(rt, options, &program, schedules),
+        Err(fault) => Ok(print_refusal(rt.alloc(), fault)?),
+    }
+}
+
+/// What is printed of a replay of the program by the schedule that a reader has.
+fn replay_program<H: Threads + Wait + AllocGlobal, S: Read>(
+    rt: &H,
+    options: &RunOptions,
+    program: &Program,
+    schedules: &mut S,
+) -> Result<Printed, Fault>
+    requires ranges { AreInRange options.now }
+    ensures text { IfOk result (λ printed. IsScheduledText options.now (S.remaining schedules.old) program.now printed.text.items printed.status) }
+    ensures taken { IfOk result (λ _. LosesPrefix trace_read_limit (S.remaining schedules.old) (S.remaining schedules.new)) }
+    ensures fault { IfErr result (λ fault. (fault ≡ Fault.OutOfMemory) ⊎ ((fault ≡ Fault.Read) ⊎ (fault ≡ Fault.NoThread))) }
+{
+    let input = read_all(rt.alloc(), schedules, MAX_TEXT_BYTES)?;
+    match read_schedule(rt.alloc(), &input) {
+        Ok(schedule) => replay_by(rt, options, program, &schedule),
+        Err(fault) => Ok(print_refusal(rt.alloc(), fault)?),
+    }
+}
+
+/// What is printed of a replay of the program by the schedule.
+fn replay_by<H: Threads + Wait + AllocGlobal>(
+    rt: &H,
+    options: &RunOptions,
+    program: &Program,
+    schedule: &[Act],
+) -> Result<Printed, Fault>
+    requires ranges { AreInRange options.now }
+    ensures text { IfOk result (λ printed. IsReplayOf options.now program.now schedule.now printed.text.items printed.status) }
+    ensures fault { IfErr result (λ fault. (fault ≡ Fault.OutOfMemory) ⊎ (fault ≡ Fault.NoThread)) }
+{
+    let alloc = rt.alloc();
+    let unit = make_unit(alloc, options.unit)?;
+    replay_on(rt, Box::new(alloc, unit)?, options, program, schedule)
+}
+
+/// What is printed of a replay on this unit, which is as the options ask for.
+fn replay_on<H: Threads + Wait + AllocGlobal>(
+    rt: &H,
+    unit: Box<dyn MemoryUnit + Send>,
+    options: &RunOptions,
+    program: &Program,
+    schedule: &[Act],
+) -> Result<Printed, Fault>
+    requires unit { value_of unit ≡ unit_of options.now.unit }
+    requires workers { HasWorkerRange options.now.workers }
+    ensures text { IfOk result (λ printed. IsReplayOf options.now program.now schedule.now printed.text.items printed.status) }
+    ensures fault { IfErr result (λ fault. (fault ≡ Fault.OutOfMemory) ⊎ (fault ≡ Fault.NoThread)) }
+{
+    let mut account = Account::new();
+    let recorded = replay(rt.alloc(), unit, program, schedule, &mut account)?;
+    print_record(rt, options, &recorded, &account)
+}

@@ -1,0 +1,2 @@
+pub mod ReadingFacts
+pub mod StreamFacts

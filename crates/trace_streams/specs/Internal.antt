@@ -1,0 +1,2 @@
+-- For private functions alone.
+pub mod Searches
