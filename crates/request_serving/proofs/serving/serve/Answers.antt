@@ -191,3 +191,6 @@ returns-in-RunTimes-clause-no_false_alarm_of_text g c = λ lawful. known_status 
 
 pub returns-in-Seen-clause-first : goal.returns-in-Seen-clause-first
 returns-in-Seen-clause-first g c = rw c.in-Seen.is c.count_named-counted.ensures.first
+
+pub returns-in-Verify-clause-first : goal.returns-in-Verify-clause-first
+returns-in-Verify-clause-first g c = rw c.in-Verify.is c.verify_named-verified.ensures.first
