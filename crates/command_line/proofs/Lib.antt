@@ -14,3 +14,4 @@ pub mod MatchLemmas
 pub mod OfferLemmas
 pub mod ParameterRows
 pub mod RequestLemmas
+pub mod FileSpellings

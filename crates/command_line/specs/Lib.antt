@@ -1,3 +1,4 @@
+pub mod FileArguments
 pub mod Given
 pub mod Parameters
 pub mod Spelled

@@ -1,6 +1,7 @@
 pub mod BatchingFacts
 pub mod DecidingFacts
 pub mod EndFacts
+pub mod FileFacts
 pub mod LawfulFacts
 pub mod LoggingFacts
 pub mod NthFacts

@@ -1,12 +1,14 @@
 //! All that the program does, from its arguments on.
-ghost use Rattle.std.specs.Prelude.{◌≡◌, ◌≢◌, None, true, false};
+ghost use Rattle.std.specs.Prelude.{◌≡◌, ◌≢◌, ℕ, List, [], ◌∷◌, codes, None, true, false};
 ghost use Rattle.std.specs.declared.io.ErrorKind.TheVariants.{OutOfMemory as NoMemory};
+ghost use Rattle.command_line.specs.FileArguments.{NameFile, NameFiles};
 ghost use Rattle.command_line.specs.Refusals.{Refuses};
 ghost use Rattle.command_line.specs.Requests.{Asked, texts_in};
 ghost use Rattle.command_line.specs.Spellings.{Asks, AsksHelp};
 ghost use Rattle.text_streams.specs.Streams.{AppendsPrefix};
 ghost use Rattle.text_streams.specs.declared.faults.Fault.TheVariants.{OutOfMemory};
 ghost use Rattle.request_serving.specs.Endings.{LeadTo, WritesFaultLine, invalid_utf8_line, outputs};
+ghost use Rattle.request_serving.specs.FileCommands.{EndsChecked, EndsDecided, EndsJudged, IsLogWithoutOrder};
 ghost use Rattle.request_serving.specs.LawfulRequests.{RunsLawfully, runs_on_lawful_unit};
 ghost use Rattle.request_texts.specs.OpenedFiles.{HasRefusedFirstText, OpensFirst, TakesInput, files_named, reads_input};
 
@@ -57,6 +59,9 @@ pub fn drive<
     errors: &mut E,
 ) -> u8
     ensures ends { LeadTo (texts_in arguments.now) (R.remaining reader.old) (λ _. None) (outputs (W.contents writer.old) (W.contents writer.new) (E.contents errors.old) (E.contents errors.new)) result }
+    ensures judges { texts_in arguments.now ≡ codes "judge" ∷ [] → EndsJudged (R.remaining reader.old) (outputs (W.contents writer.old) (W.contents writer.new) (E.contents errors.old) (E.contents errors.new)) result }
+    ensures decides { texts_in arguments.now ≡ codes "decide" ∷ [] → EndsDecided (R.remaining reader.old) (outputs (W.contents writer.old) (W.contents writer.new) (E.contents errors.old) (E.contents errors.new)) result }
+    ensures finds { texts_in arguments.now ≡ codes "log" ∷ [] → result ≡ 3 → IsLogWithoutOrder (R.remaining reader.old) }
     ensures no_false_alarm { (asked : Asked) → Asks (texts_in arguments.now) asked → runs_on_lawful_unit asked ≡ true → result ≢ 3 }
     ensures no_false_alarm_of_text { (asked : Asked) → Asks (texts_in arguments.now) asked → RunsLawfully asked (R.remaining reader.old) (λ _. None) → result ≢ 3 }
     ensures unread { (asked : Asked) → Asks (texts_in arguments.now) asked → reads_input asked ≡ false → reader.new ≡ reader.old }
@@ -92,6 +97,10 @@ pub fn drive_over<
     E: Write,
 >(rt: &H, arguments: &[String], files: &mut O, reader: &mut R, writer: &mut W, errors: &mut E) -> u8
     ensures ends { LeadTo (texts_in arguments.now) (R.remaining reader.old) (O.bytes files.old) (outputs (W.contents writer.old) (W.contents writer.new) (E.contents errors.old) (E.contents errors.new)) result }
+    ensures judges { (file : List ℕ) → NameFile (codes "judge") file (texts_in arguments.now) → EndsJudged (O.bytes files.old file) (outputs (W.contents writer.old) (W.contents writer.new) (E.contents errors.old) (E.contents errors.new)) result }
+    ensures decides { (file : List ℕ) → NameFile (codes "decide") file (texts_in arguments.now) → EndsDecided (O.bytes files.old file) (outputs (W.contents writer.old) (W.contents writer.new) (E.contents errors.old) (E.contents errors.new)) result }
+    ensures checks { (trace cert : List ℕ) → NameFiles (codes "check") trace cert (texts_in arguments.now) → EndsChecked (O.bytes files.old trace) (O.bytes files.old cert) (outputs (W.contents writer.old) (W.contents writer.new) (E.contents errors.old) (E.contents errors.new)) result }
+    ensures finds { (file : List ℕ) → NameFile (codes "log") file (texts_in arguments.now) → result ≡ 3 → IsLogWithoutOrder (O.bytes files.old file) }
     ensures no_false_alarm { (asked : Asked) → Asks (texts_in arguments.now) asked → runs_on_lawful_unit asked ≡ true → result ≢ 3 }
     ensures no_false_alarm_of_text { (asked : Asked) → Asks (texts_in arguments.now) asked → RunsLawfully asked (R.remaining reader.old) (O.bytes files.old) → result ≢ 3 }
     ensures opened { (asked : Asked) → Asks (texts_in arguments.now) asked → OpensFirst (O.opened files.old) (O.opened files.new) (files_named asked) }

@@ -3,6 +3,7 @@ use Rattle.command_line.specs.Requests.{asked_of}
 use Rattle.request_serving.specs.Endings.{Does, EndsOutOfMemory, Outputs, outputs}
 use Rattle.request_serving.specs.LawfulRequests.{RunsLawfully, runs_on_lawful_unit}
 use Rattle.request_texts.specs.OpenedFiles.{HasRefusedFirstText, OpensFirst, TakesInput, files_named, reads_input}
+use Rattle.request_serving.proofs.FileFacts.{file_decided, file_judged, file_logged, files_checked}
 use Rattle.request_serving.proofs.driving.drive_over.Goals as goal
 
 pub returns-in-Ok-clause-ends : goal.returns-in-Ok-clause-ends
@@ -59,3 +60,27 @@ returns-in-Err-clause-no_false_alarm_of_text g c = λ asked asks lawful three. o
 pub returns-in-Ok-clause-unread_after_refusal : goal.returns-in-Ok-clause-unread_after_refusal
 returns-in-Ok-clause-unread_after_refusal g c = λ asked asks refused.
     c.serve.ensures.unread_after_refusal (subst (λ a. HasRefusedFirstText a (g.O.Surroundings.bytes c.args.files.now)) (sym (c.in-Ok.ensures.asked asked asks)) refused)
+
+pub returns-in-Ok-clause-judges : goal.returns-in-Ok-clause-judges
+returns-in-Ok-clause-judges g c = file_judged _ _ _ _ _ (returns-in-Ok-clause-ends g c)
+
+pub returns-in-Err-clause-judges : goal.returns-in-Err-clause-judges
+returns-in-Err-clause-judges g c = file_judged _ _ _ _ _ (returns-in-Err-clause-ends g c)
+
+pub returns-in-Ok-clause-decides : goal.returns-in-Ok-clause-decides
+returns-in-Ok-clause-decides g c = file_decided _ _ _ _ _ (returns-in-Ok-clause-ends g c)
+
+pub returns-in-Err-clause-decides : goal.returns-in-Err-clause-decides
+returns-in-Err-clause-decides g c = file_decided _ _ _ _ _ (returns-in-Err-clause-ends g c)
+
+pub returns-in-Ok-clause-checks : goal.returns-in-Ok-clause-checks
+returns-in-Ok-clause-checks g c = files_checked _ _ _ _ _ (returns-in-Ok-clause-ends g c)
+
+pub returns-in-Err-clause-checks : goal.returns-in-Err-clause-checks
+returns-in-Err-clause-checks g c = files_checked _ _ _ _ _ (returns-in-Err-clause-ends g c)
+
+pub returns-in-Ok-clause-finds : goal.returns-in-Ok-clause-finds
+returns-in-Ok-clause-finds g c = file_logged _ _ _ _ _ (returns-in-Ok-clause-ends g c)
+
+pub returns-in-Err-clause-finds : goal.returns-in-Err-clause-finds
+returns-in-Err-clause-finds g c = file_logged _ _ _ _ _ (returns-in-Err-clause-ends g c)
