@@ -12,12 +12,13 @@ use Rattle.command_line.specs.Names.{known_names}
 use Rattle.command_line.specs.Parameters.{Parameter}
 use Rattle.command_line.specs.declared.parameters.NameList.{NameList}
 use Rattle.command_line.specs.declared.options.Presentation.TheVariants.{Report}
-use Rattle.command_line.specs.declared.options.LogForm.TheVariants.{Lines}
-use Rattle.command_line.specs.declared.options.LogOptions.{LogOptions}
+use Rattle.request_options.specs.declared.logs.LogForm.TheVariants.{Lines}
+use Rattle.request_options.specs.declared.logs.LogOptions.{LogOptions}
 use Rattle.command_line.specs.Requests.{Text, checking, deciding, judging, logging, refusing}
 use Rattle.command_line.specs.Spellings.{Asks}
 use Rattle.command_line.specs.Spellings.Asks.{subcommand}
-use Rattle.command_line.specs.Subcommands.{file_of, pair_of}
+use Rattle.command_line.specs.Options.{pair_of}
+use Rattle.command_line.specs.Subcommands.{file_of}
 use Rattle.command_line.specs.Subcommands as subcommands
 
 -- ---- names of files

@@ -16,9 +16,9 @@ use Rattle.clap.specs.declared.builder.value_parser.ValueParser.TheVariants as p
 use Rattle.clap.proofs.ValueTestLemmas.{accepts-Accepts, Accepts-accepts}
 use Rattle.clap.proofs.WalkLemmas.{first_value-rows, one_text-rows}
 use Rattle.command_line.specs.Offered.{several_in}
-use Rattle.command_line.specs.declared.options.BatchPrinting.{BatchPrinting}
-use Rattle.command_line.specs.declared.options.LogForm.{LogForm}
-use Rattle.command_line.specs.declared.options.LogOptions.{LogOptions}
+use Rattle.request_options.specs.declared.batches.BatchPrinting.{BatchPrinting}
+use Rattle.request_options.specs.declared.logs.LogForm.{LogForm}
+use Rattle.request_options.specs.declared.logs.LogOptions.{LogOptions}
 use Rattle.command_line.specs.declared.options.RunOptions.{RunOptions}
 use Rattle.command_line.specs.declared.options.UnitOptions.{UnitOptions}
 use Rattle.command_line.specs.Requests.{Asked, Text, asked_of, batching, capacity_limit, checking, deciding, drain_turns_limit, judging, log_effort_limit, log_violation_limit, logging, number_limit, percent_limit, prints_trace, refusing, repeating, replaying, run_times_limit, running, verifying, worker_limit}
@@ -26,7 +26,9 @@ use Rattle.command_line.specs.declared.options.Presentation.{Presentation}
 use Rattle.command_line.specs.declared.options.Printing.{Printing}
 use Rattle.command_line.specs.Pictures.{chosen_picture, picture_of}
 use Rattle.command_line.specs.declared.requests.Request.{Request}
-use Rattle.command_line.specs.Subcommands.{batch, batch_printing_of, batch_texts, check, decision_asked, draw, explain, file_of, is_true, log, log_form_of, log_options_in, log_options_of, log_parameters, number_of, number_or, outcomes, outcomes_asked, pair_of, presented, printing_of, replay, run, run_asked, run_of, run_parameters, unit_of, verdict_asked, verify, within, workers_of}
+use Rattle.request_options.specs.declared.outcomes.OutcomeForm.{OutcomeForm}
+use Rattle.command_line.specs.Options.{batch_printing_of, is_true, log_form_of, log_options_in, log_options_of, number_of, number_or, outcome_form_of, pair_of, printing_of, run_of, unit_of, within, workers_of}
+use Rattle.command_line.specs.Subcommands.{batch, batch_texts, check, decision_asked, draw, explain, file_of, log, log_parameters, outcomes, outcomes_asked, presented, replay, run, run_asked, run_parameters, verdict_asked, verify}
 use Rattle.command_line.specs.Commands.{asked_in, given_in}
 
 -- the file that a value names which was asked for by its id
@@ -176,10 +178,10 @@ pub run_found : (rows : List Row) (options : Option RunOptions) → options ≡ 
 run_found rows options options_are seed turns times program seed_is turns_are times_are program_is = rw (options_are, seed_is, turns_are, times_are, program_is) refl
 
 -- what `outcomes` asks for
-pub outcomes_found : (rows : List Row) (states : Bool) (limit : ℕ) (program : Option Text) → states ≡ is_true (one_of (codes "states") rows) → limit ≡ number_or 1000000 (one_of (codes "limit") rows)
-    → program ≡ file_of (first_of (codes "program") rows) → (stream : Option Text) → stream ≡ first_of (codes "seen") rows
-    → outcomes_asked states limit program stream ≡ asked_in outcomes rows
-outcomes_found rows states limit program states_are limit_is program_is stream stream_is = rw (states_are, limit_is, program_is, stream_is) refl
+pub outcomes_found : (rows : List Row) (states : Bool) (form : OutcomeForm) (limit : ℕ) (program : Option Text) → form ≡ outcome_form_of states → states ≡ is_true (one_of (codes "states") rows)
+    → limit ≡ number_or 1000000 (one_of (codes "limit") rows) → program ≡ file_of (first_of (codes "program") rows) → (stream : Option Text) → stream ≡ first_of (codes "seen") rows
+    → outcomes_asked (record { limit = limit; form = form }) program stream ≡ asked_in outcomes rows
+outcomes_found rows states form limit program form_is states_are limit_is program_is stream stream_is = rw (form_is, states_are, limit_is, program_is, stream_is) refl
 
 -- what holds of a refusal, and of what is asked for with options in their ranges, holds of what `replay`, `run` and `log` ask for
 module _ (P : Asked → Type 0) (refused : P refusing) where

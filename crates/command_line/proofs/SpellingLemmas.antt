@@ -17,7 +17,8 @@ use Rattle.command_line.specs.declared.options.Presentation.TheVariants.{Report}
 use Rattle.command_line.specs.declared.requests.Notes.{Notes}
 use Rattle.command_line.specs.Spellings.{Asks, AsksHelp, AsksNotes}
 use Rattle.command_line.specs.Spellings as asks
-use Rattle.command_line.specs.Subcommands.{no_notes, notes_of, text_by_name}
+use Rattle.command_line.specs.Options.{no_notes, notes_of}
+use Rattle.command_line.specs.Subcommands.{text_by_name}
 use Rattle.command_line.specs.Names.{known_names}
 use Rattle.command_line.specs.Subcommands.{asks as asks_of}
 use Rattle.command_line.specs.declared.options.OptionNames.{OptionNames}

@@ -15,7 +15,8 @@ use Rattle.command_line.specs.declared.requests.Notes.{Notes}
 use Rattle.command_line.specs.declared.parameters.NameList.{NameList}
 use Rattle.command_line.specs.declared.parameters.NameList.TheVariants.{Units, Models, Formats, Edges}
 use Rattle.command_line.specs.Requests.{Text, Asked, judging, refusing, showing}
-use Rattle.command_line.specs.Subcommands.{Subcommand, asks, no_notes, notes_of, subcommands, text_by_name}
+use Rattle.command_line.specs.Options.{no_notes, notes_of}
+use Rattle.command_line.specs.Subcommands.{Subcommand, asks, subcommands, text_by_name}
 use Rattle.command_line.specs.Names.{known_names}
 
 -- ---- the command line

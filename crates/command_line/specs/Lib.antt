@@ -3,6 +3,7 @@ pub mod Given
 pub mod Parameters
 pub mod Spelled
 pub mod Offered
+pub mod Options
 pub mod Requests
 pub mod Names
 pub mod Pictures

@@ -2,8 +2,8 @@
 use Rattle.std.specs.Prelude.{List, [], ◌∷◌, codes, map}
 use Rattle.tso_ops.specs.declared.settings.Order.{Order}
 use Rattle.tso_ops.specs.declared.settings.Order.TheVariants.{Tso, Pso}
-use Rattle.command_line.specs.declared.options.BatchFormat.{BatchFormat}
-use Rattle.command_line.specs.declared.options.BatchFormat.TheVariants.{Words, Json, Junit}
+use Rattle.request_options.specs.declared.batches.BatchFormat.{BatchFormat}
+use Rattle.request_options.specs.declared.batches.BatchFormat.TheVariants.{Words, Json, Junit}
 use Rattle.command_line.specs.declared.options.Presentation.{Presentation}
 use Rattle.command_line.specs.declared.options.Presentation.TheVariants.{Picture, FieldPicture}
 use Rattle.command_line.specs.declared.options.UnitKind.{UnitKind}
@@ -11,8 +11,8 @@ use Rattle.command_line.specs.declared.options.UnitKind.TheVariants.{Serial, Buf
 use Rattle.command_line.specs.declared.parameters.NameList.{NameList}
 use Rattle.command_line.specs.declared.parameters.NameList.TheVariants.{Units, Models, Formats, Edges}
 use Rattle.command_line.specs.Requests.{Text}
-use Rattle.unit_faulty.specs.Faulty.{fault_name}
-use Rattle.unit_faulty.specs.declared.kinds.FaultKind.TheVariants.{NewestFirst, NoForward, StaleLoad, TornSwap, IdleMembar, LostDrain}
+use Rattle.request_options.specs.FaultNames.{fault_name}
+use Rattle.request_options.specs.declared.faults.FaultKind.TheVariants.{NewestFirst, NoForward, StaleLoad, TornSwap, IdleMembar, LostDrain}
 
 -- the units, each with its name and its kind
 abbrev pub units : List (Text × UnitKind)

@@ -3,9 +3,10 @@ use Rattle.std.specs.Prelude.{◌≤◌, ◌^◌, ◌-◌, ℕ, Bool, true, fals
 use Rattle.command_line.specs.declared.requests.Request.{Request}
 use Rattle.command_line.specs.declared.requests.TextPair.{TextPair}
 use Rattle.command_line.specs.declared.requests.TextPair.TheVariants.{Files, InputAndFile, FileAndInput}
-use Rattle.command_line.specs.declared.options.BatchPrinting.{BatchPrinting}
+use Rattle.request_options.specs.declared.batches.BatchPrinting.{BatchPrinting}
 use Rattle.command_line.specs.declared.options.CampaignOptions.{CampaignOptions}
-use Rattle.command_line.specs.declared.options.LogOptions.{LogOptions}
+use Rattle.request_options.specs.declared.logs.LogOptions.{LogOptions}
+use Rattle.request_options.specs.declared.outcomes.OutcomeOptions.{OutcomeOptions}
 use Rattle.command_line.specs.declared.options.MakeOptions.{MakeOptions}
 use Rattle.command_line.specs.declared.options.Presentation.{Presentation}
 use Rattle.command_line.specs.declared.options.Printing.{Printing}
@@ -47,8 +48,8 @@ pub data Asked : Type 0 where
   checking : Option Text → Option Text → Option ℕ → Asked
   -- to check evidence, the second text, of whether a trace, the first text or the trace of this number in it, has such an order
   verifying : Option Text → Option Text → Option ℕ → Asked
-  -- to list the outcomes of a program whose runs reach so many states at most: their traces, or their final states where this is true
-  listing : Option Text → ℕ → Bool → Asked
+  -- to list the outcomes of a program with these options
+  listing : Option Text → OutcomeOptions → Asked
   -- to count how often a stream of traces, the second text, has each trace of the runs of a program, the first, where they reach so many states at most
   counting : Option Text → Option Text → ℕ → Asked
   -- to replay a program, the first text, by a schedule, the second, with these options
@@ -83,7 +84,7 @@ asked_of (Batch batch) = batching (map (option_map (λ f. f.now)) batch.texts.it
 asked_of (Log log) = logging (option_map (λ f. f.now) log.file) log.options
 asked_of (Check check) = checking (files_of check.texts).0 (files_of check.texts).1 check.nth
 asked_of (Verify check) = verifying (files_of check.texts).0 (files_of check.texts).1 check.nth
-asked_of (Outcomes outcomes) = listing (option_map (λ f. f.now) outcomes.program) outcomes.limit outcomes.states
+asked_of (Outcomes outcomes) = listing (option_map (λ f. f.now) outcomes.program) outcomes.options
 asked_of (Seen seen) = counting (files_of seen.texts).0 (files_of seen.texts).1 seen.limit
 asked_of (Replay options texts) = replaying options (files_of texts).0 (files_of texts).1
 asked_of (Run run) = running run.options run.drain_seed run.drain_turns (option_map (λ f. f.now) run.program)
@@ -148,7 +149,7 @@ needs (batching texts workers printing) = record nothing_needed { texts = texts;
 needs (logging file options) = record nothing_needed { texts = file ∷ [] }
 needs (checking trace certificate nth) = record nothing_needed { texts = trace ∷ certificate ∷ [] }
 needs (verifying trace evidence nth) = record nothing_needed { texts = trace ∷ evidence ∷ [] }
-needs (listing program limit states) = record nothing_needed { texts = program ∷ [] }
+needs (listing program options) = record nothing_needed { texts = program ∷ [] }
 needs (counting program stream limit) = record nothing_needed { texts = program ∷ stream ∷ [] }
 needs (replaying options program schedule) = record {
   texts = program ∷ schedule ∷ [];

@@ -4,7 +4,8 @@ use Rattle.command_line.specs.Spelled.{Give}
 use Rattle.command_line.specs.declared.options.Presentation.TheVariants.{Report}
 use Rattle.command_line.specs.declared.requests.Notes.{Notes}
 use Rattle.command_line.specs.Requests.{Text, Asked, judging}
-use Rattle.command_line.specs.Subcommands.{Subcommand, asks, no_notes, notes_of, subcommands, text_by_name}
+use Rattle.command_line.specs.Options.{no_notes, notes_of}
+use Rattle.command_line.specs.Subcommands.{Subcommand, asks, subcommands, text_by_name}
 use Rattle.command_line.specs.Names.{known_names}
 
 -- the arguments ask for this

@@ -1,34 +1,20 @@
 -- The subcommands as values: the parameters of each, and what it asks for by their texts.
-use Rattle.std.specs.Prelude.{◌&&◌, ◌||◌, ◌==◌, ℕ, Bool, true, false, List, [], ◌∷◌, ◌++◌, Option, Some, None, codes, count_by, find, is_none, is_some, map, max, min, nat_le, option_and_then, option_map, unwrap_or, zip, if◌then◌else◌}
+use Rattle.std.specs.Prelude.{◌==◌, ℕ, true, false, List, [], ◌∷◌, ◌++◌, Option, Some, None, codes, count_by, find, is_none, map, nat_le, option_and_then, zip, if◌then◌else◌}
 use Rattle.std.specs.List.{list_any}
 use Rattle.std.specs.Option.{option_map_or}
 use Rattle.std.specs.Str.{bytes_eq}
-use Rattle.std.specs.Str.Parse.{digits_value, without_leading_plus}
-use Rattle.clap.specs.ValueTests.{is_unsigned_in}
-use Rattle.command_line.specs.Given.{value_named}
 use Rattle.command_line.specs.Parameters.{Parameter, any_text, flag, id_of, is_several, listed, option, optional, other, range, several}
-use Rattle.tso_ops.specs.declared.settings.Order.{Order}
-use Rattle.tso_ops.specs.declared.settings.Order.TheVariants.{Tso}
-use Rattle.command_line.specs.declared.options.BatchFormat.{BatchFormat}
-use Rattle.command_line.specs.declared.options.BatchFormat.TheVariants.{Words}
-use Rattle.command_line.specs.declared.options.BatchPrinting.{BatchPrinting}
-use Rattle.command_line.specs.declared.options.Printing.{Printing}
-use Rattle.command_line.specs.declared.options.LogForm.{LogForm}
-use Rattle.command_line.specs.declared.options.LogForm.TheVariants as forms
-use Rattle.command_line.specs.declared.options.LogOptions.{LogOptions}
+use Rattle.request_options.specs.declared.outcomes.OutcomeForm.{OutcomeForm}
+use Rattle.request_options.specs.declared.outcomes.OutcomeForm.TheVariants.{States, Traces}
+use Rattle.request_options.specs.declared.outcomes.OutcomeOptions.{OutcomeOptions}
 use Rattle.command_line.specs.declared.options.Presentation.{Presentation}
 use Rattle.command_line.specs.declared.options.Presentation.TheVariants as form
-use Rattle.command_line.specs.declared.options.Printing.TheVariants.{Report, Trace, Explanation}
 use Rattle.command_line.specs.declared.options.RunOptions.{RunOptions}
-use Rattle.command_line.specs.declared.options.ShapeNumbers.{ShapeNumbers}
-use Rattle.command_line.specs.declared.options.UnitKind.TheVariants.{Serial}
-use Rattle.command_line.specs.declared.options.UnitOptions.{UnitOptions}
-use Rattle.command_line.specs.declared.requests.Notes.{Notes}
 use Rattle.command_line.specs.declared.parameters.NameList.{NameList}
 use Rattle.command_line.specs.declared.parameters.NameList.TheVariants.{Units, Models, Formats}
-use Rattle.command_line.specs.Names.{formats, models, units}
 use Rattle.command_line.specs.Pictures.{chosen_picture, edges, picture_of}
 use Rattle.command_line.specs.Requests.{Text, Asked, batching, campaigning, capacity_limit, checking, counting, deciding, drain_turns_limit, judging, listing, log_effort_limit, log_violation_limit, logging, making, number_limit, percent_limit, prints_trace, reducing, refusing, repeating, replaying, run_times_limit, running, verifying, worker_limit}
+use Rattle.command_line.specs.Options.{batch_printing_of, campaign_printing_of, chosen_order, drain_turns_of, effort_of, execution_of, is_true, log_options_of, number_of, number_or, outcome_form_of, pair_of, run_of, shape_of, times_of, unit_of, workers_of}
 
 pub record Subcommand : Type 0 where
   pub name : Text
@@ -127,104 +113,6 @@ model = option (codes "model") (listed Models) (Some (codes "tso"))
 abbrev pub format : Parameter NameList
 format = option (codes "format") (listed Formats) (Some (codes "words"))
 
--- ---- what their texts stand for
-
--- the number of 64 bits that a text spells, in digits after a plus sign or none; none where there is no text, or it spells none
-abbrev pub number_of : Option Text → Option ℕ
-number_of text = option_and_then (λ t. if is_unsigned_in 0 number_limit t then Some (digits_value 10 (without_leading_plus t)) else None) text
-
--- that number, and `default` where there is none
-abbrev pub number_or : ℕ → Option Text → ℕ
-number_or default text = unwrap_or (number_of text) default
-
--- The nearest number within the limits. An option takes no other; what `clap` says of all arguments doesn't say so.
-abbrev pub within : ℕ → ℕ → ℕ → ℕ
-within least most n = max least (min n most)
-
-abbrev pub workers_of : (Text → Option Text) → ℕ
-workers_of given = within 1 worker_limit (number_or 1 (given (codes "workers")))
-
-abbrev pub effort_of : (Text → Option Text) → ℕ
-effort_of given = number_or 100000 (given (codes "effort"))
-
-abbrev pub drain_turns_of : (Text → Option Text) → ℕ
-drain_turns_of given = within 0 drain_turns_limit (number_or 0 (given (codes "drain-turns")))
-
-abbrev pub times_of : (Text → Option Text) → ℕ
-times_of given = within 1 run_times_limit (number_or 1 (given (codes "times")))
-
-abbrev pub unit_of : (Text → Option Text) → UnitOptions
-unit_of given = record {
-  kind = unwrap_or (option_and_then (λ name. value_named name units) (given (codes "unit"))) Serial;
-  capacity = within 1 capacity_limit (number_or 8 (given (codes "capacity")));
-  trigger = within 1 number_limit (number_or 1 (given (codes "trigger")));
-}
-
--- a flag is used
-abbrev pub is_true : Option Text → Bool
-is_true text = option_map_or (λ t. bytes_eq t (codes "true")) text false
-
--- nothing is told beside what is asked for
-abbrev pub no_notes : Notes
-no_notes = record { verbose = false; progress = false }
-
--- what is told beside what is asked for, by the text of the parameter of each name
-abbrev pub notes_of : (Text → Option Text) → Notes
-notes_of given = record { verbose = is_true (given (codes "verbose")); progress = is_true (given (codes "progress")) }
-
--- what a run prints, by whether the flags of trace and of explanation are used, of which one may be
-abbrev pub printing_of : Bool → Bool → Option Printing
-printing_of trace explain = if trace && explain then None else Some (if trace then Trace else if explain then Explanation else Report)
-
-abbrev pub run_of : (Text → Option Text) → Option RunOptions
-run_of given =
-    option_map (λ printing. record { unit = unit_of given; workers = workers_of given; printing = printing; with_trace = is_true (given (codes "with-trace")) })
-    (printing_of (is_true (given (codes "trace"))) (is_true (given (codes "explain"))))
-
-abbrev pub chosen_format : Option Text → BatchFormat
-chosen_format text = unwrap_or (option_and_then (λ name. value_named name formats) text) Words
-
-abbrev pub batch_printing_of : (Text → Option Text) → BatchPrinting
-batch_printing_of given = record {
-  format = chosen_format (given (codes "format"));
-  quiet = is_true (given (codes "quiet"));
-  violations = is_true (given (codes "violations"));
-  effort = if is_true (given (codes "decide")) then Some (effort_of given) else None;
-  required = number_of (given (codes "require"));
-}
-
--- the form in which violations are shown, by whether the flags of traces and of explanations are used, of which one may be
-abbrev pub log_form_of : Bool → Bool → Option LogForm
-log_form_of trace explain = if trace && explain then None else Some (if trace then forms.Traces else if explain then forms.Explained else forms.Lines)
-
-abbrev pub log_options_in : (Text → Option Text) → LogForm → LogOptions
-log_options_in given form = record {
-  most = within 1 log_violation_limit (number_or 10 (given (codes "most")));
-  effort = within 0 log_effort_limit (number_or 100 (given (codes "effort")));
-  max_unknown = within 0 percent_limit (number_or 100 (given (codes "max-unknown")));
-  needs_end = is_true (given (codes "ended"));
-  form = form;
-}
-
-abbrev pub log_options_of : (Text → Option Text) → Option LogOptions
-log_options_of given =
-    option_map (log_options_in given)
-    (log_form_of (is_true (given (codes "trace"))) (is_true (given (codes "explain"))))
-
-abbrev pub shape_of : (Text → Option Text) → ShapeNumbers
-shape_of given = record {
-  processors = number_or 0 (given (codes "procs"));
-  operations = number_or 0 (given (codes "ops"));
-  addresses = number_or 0 (given (codes "addrs"));
-}
-
-abbrev pub chosen_order : Option Text → Order
-chosen_order text = unwrap_or (option_and_then (λ name. value_named name models) text) Tso
-
--- two texts, each in a file or on standard input; none where both would be there, which can be read once
-abbrev pub pair_of : Option Text → Option Text → Option (Option Text × Option Text)
-pair_of first second = if is_some first || is_some second then Some (first, second) else None
-
 -- ---- the subcommands
 
 -- the verdict on a trace in this form
@@ -316,11 +204,15 @@ verify = record {
       option_map_or (λ texts. verifying texts.0 texts.1 (number_of (given (codes "nth")))) (pair_of (file_of (given (codes "trace"))) (file_of (given (codes "evidence")))) refusing;
 }
 
--- to list outcomes, or to count those of a stream where one is named: then final states aren't asked for, since a trace doesn't tell last values
-abbrev pub outcomes_asked : (states : Bool) → (limit : ℕ) → (program : Option Text) → (stream : Option Text) → Asked
-outcomes_asked states limit program None = listing program limit states
-outcomes_asked states limit program (Some name) =
-    if states then refusing else option_map_or (λ texts. counting texts.0 texts.1 limit) (pair_of program (file_of (Some name))) refusing
+-- to count the outcomes of a stream: final states aren't asked for there, since a trace doesn't tell last values
+abbrev pub counting_asked : OutcomeForm → (limit : ℕ) → (program : Option Text) → (stream : Option Text) → Asked
+counting_asked States limit program stream = refusing
+counting_asked Traces limit program stream = option_map_or (λ texts. counting texts.0 texts.1 limit) (pair_of program stream) refusing
+
+-- to list outcomes, or to count those of a stream where one is named
+abbrev pub outcomes_asked : OutcomeOptions → (program : Option Text) → (stream : Option Text) → Asked
+outcomes_asked options program None = listing program options
+outcomes_asked options program (Some name) = counting_asked options.form options.limit program (file_of (Some name))
 
 -- `outcomes [--states] [--limit N] [--seen STREAM] [--verbose] PROGRAM`: lists the outcomes of a program, or counts those of a stream of traces; runs may
 -- reach 1,000,000 states where the limit is left out
@@ -331,7 +223,8 @@ outcomes = record {
       flag (codes "states") ∷ option (codes "limit") (range 1 number_limit) (Some (codes "1000000")) ∷ optional (codes "seen") any_text ∷ verbose
       ∷ other (codes "program") true ∷ [];
   ask = λ given.
-      outcomes_asked (is_true (given (codes "states"))) (number_or 1000000 (given (codes "limit"))) (file_of (given (codes "program"))) (given (codes "seen"));
+      outcomes_asked (record { limit = number_or 1000000 (given (codes "limit")); form = outcome_form_of (is_true (given (codes "states"))) })
+      (file_of (given (codes "program"))) (given (codes "seen"));
 }
 
 -- `replay --unit UNIT [--capacity C] [--trigger T] [--workers N] [--trace|--explain] [--with-trace] [--verbose] PROGRAM SCHEDULE`: replays a program by a
@@ -385,9 +278,8 @@ campaign = record {
   ask = λ given. campaigning (record {
     unit = unit_of given;
     workers = workers_of given;
-    replayed = is_true (given (codes "replay"));
-    drain_turns = drain_turns_of given;
-    traces = is_true (given (codes "trace"));
+    execution = execution_of (is_true (given (codes "replay"))) (drain_turns_of given);
+    printing = campaign_printing_of (is_true (given (codes "trace")));
     order = chosen_order (given (codes "model"));
     first = number_or 0 (given (codes "first"));
     count = number_or 0 (given (codes "count"));

@@ -3,7 +3,8 @@ ghost use Rattle.std.specs.Prelude.{◌≡◌, [], codes, count_by, false, is_no
 ghost use Rattle.clap.specs.Words.{first_of, found_of, one_of, rows_of};
 ghost use Rattle.command_line.specs.Commands.{asked_in, given_in};
 ghost use Rattle.command_line.specs.Requests.{asked_of, files_of, refusing};
-ghost use Rattle.command_line.specs.Subcommands.{batch, batch_printing_of, batch_texts, campaign, check, decide, explain, file_of, is_true, judge, log, log_form_of, log_options_of, log_parameters, make, pair_of, presented, printing_of, reduce, replay, run_of, run_parameters, shape_of, shape_parameters, unit_of, unit_parameters, verify};
+ghost use Rattle.command_line.specs.Options.{batch_printing_of, campaign_printing_of, execution_of, is_true, log_form_of, log_options_of, method_of, pair_of, printing_of, run_of, shape_of, unit_of};
+ghost use Rattle.command_line.specs.Subcommands.{batch, batch_texts, campaign, check, decide, explain, file_of, judge, log, log_parameters, make, presented, reduce, replay, run_parameters, shape_parameters, unit_parameters, verify};
 
 pub(crate) use outcomes::outcomes;
 pub(crate) use pictures::draw;
@@ -15,9 +16,8 @@ mod runs;
 
 use crate::help;
 use crate::options::{
-    BatchPrinting, CampaignOptions, LogForm, LogOptions, MAX_CAPACITY, MAX_LOG_EFFORT,
-    MAX_LOG_VIOLATIONS, MAX_PERCENT, MakeOptions, Presentation, Printing, RunOptions, ShapeNumbers,
-    UnitKind, UnitOptions, kind_named,
+    CampaignOptions, MAX_CAPACITY, MAX_LOG_EFFORT, MAX_LOG_VIOLATIONS, MAX_PERCENT, MakeOptions,
+    Presentation, Printing, RunOptions, ShapeNumbers, UnitKind, UnitOptions, kind_named,
 };
 use crate::requests::{
     BatchRequest, CheckRequest, DecideRequest, JudgeRequest, LogRequest, Notes, ReduceRequest,
@@ -28,6 +28,9 @@ use crate::values::{
     number_within, order, required, workers,
 };
 use clap::ArgMatches;
+use request_options::{
+    BatchMethod, BatchPrinting, CampaignPrinting, Execution, LogForm, LogOptions,
+};
 use std::alloc::{AllocError, Global};
 
 /// Of `judge`.
@@ -172,14 +175,35 @@ pub(crate) fn campaign<'a>(matches: &ArgMatches<'a>) -> Request<'a>
     Request::Campaign(CampaignOptions {
         unit: unit_options(matches),
         workers: workers(matches),
-        replayed: is_used(matches, "replay"),
-        drain_turns: drain_turns(matches),
-        traces: is_used(matches, "trace"),
+        execution: execution_of(is_used(matches, "replay"), drain_turns(matches)),
+        printing: campaign_printing_of(is_used(matches, "trace")),
         order: order(matches),
         first: number(matches, "first", 0),
         count: number(matches, "count", 0),
         shape: shape_numbers(matches),
     })
+}
+
+/// How programs are executed, by whether a replay is asked for, and else with so many turns of a drainer.
+fn execution_of(replayed: bool, drain_turns: u64) -> Execution
+    ensures { result ≡ execution_of replayed drain_turns }
+{
+    if replayed {
+        Execution::Replay
+    } else {
+        Execution::Threads { drain_turns }
+    }
+}
+
+/// What is printed of a campaign, by whether its traces are asked for.
+fn campaign_printing_of(traces: bool) -> CampaignPrinting
+    ensures { result ≡ campaign_printing_of traces }
+{
+    if traces {
+        CampaignPrinting::Traces
+    } else {
+        CampaignPrinting::Lines
+    }
 }
 
 /// A refusal with this text.
@@ -304,11 +328,21 @@ fn batch_printing(matches: &ArgMatches<'_>) -> BatchPrinting
     ensures { result ≡ batch_printing_of (given_in batch.parameters (rows_of (found_of matches.now))) }
 {
     BatchPrinting {
+        method: method_of(decision_effort(matches)),
         format: format(matches),
         quiet: is_used(matches, "quiet"),
         violations: is_used(matches, "violations"),
-        effort: decision_effort(matches),
         required: required(matches),
+    }
+}
+
+/// How it is found out what is said of a trace: by a decision with at most so many steps, where a number is given.
+fn method_of(effort: Option<u64>) -> BatchMethod
+    ensures { result ≡ method_of effort }
+{
+    match effort {
+        None => BatchMethod::Judge,
+        Some(effort) => BatchMethod::Decide { effort },
     }
 }
 

@@ -13,9 +13,9 @@ mod subcommands;
 mod values;
 
 pub use options::{
-    BatchFormat, BatchPrinting, CampaignOptions, LogForm, LogOptions, MAX_CAPACITY,
-    MAX_DRAIN_TURNS, MAX_LOG_EFFORT, MAX_LOG_VIOLATIONS, MAX_RUN_TIMES, MAX_WORKERS, MakeOptions,
-    Presentation, Printing, RunOptions, ShapeNumbers, UnitKind, UnitOptions,
+    CampaignOptions, MAX_CAPACITY, MAX_DRAIN_TURNS, MAX_LOG_EFFORT, MAX_LOG_VIOLATIONS,
+    MAX_RUN_TIMES, MAX_WORKERS, MakeOptions, Presentation, Printing, RunOptions, ShapeNumbers,
+    UnitKind, UnitOptions,
 };
 pub use requests::{
     BatchRequest, CheckRequest, CommandLine, DecideRequest, JudgeRequest, LogRequest, Notes,

@@ -5,8 +5,8 @@ ghost use Rattle.command_line.specs.Commands.{HasKnownNames};
 ghost use Rattle.command_line.specs.Names.{formats, models, pictures, units};
 ghost use Rattle.command_line.specs.Requests.{prints_trace};
 
+use request_options::{BatchFormat, CampaignPrinting, Execution, FaultKind};
 use tso_ops::Order;
-use unit_faulty::FaultKind;
 
 /// The greatest number of workers.
 pub const MAX_WORKERS: usize = 64;
@@ -187,17 +187,6 @@ pub struct RunOptions {
     pub with_trace: bool,
 }
 
-/// How the lines of a batch are written.
-#[derive(Clone, Copy)]
-pub enum BatchFormat {
-    /// `words`: as `trace 1 VIOLATION`.
-    Words,
-    /// `json`: as an object of JSON each.
-    Json,
-    /// `junit`: as a document in JUnit's XML, with a test case each.
-    Junit,
-}
-
 /// The names of the formats, as `--format` takes them; `format_named` knows each.
 static FORMAT_NAMES: [&str; 3] = ["words", "json", "junit"];
 
@@ -211,47 +200,6 @@ pub(crate) fn format_named(name: &str) -> Option<BatchFormat>
         "junit" => Some(BatchFormat::Junit),
         _ => None,
     }
-}
-
-/// What is said and printed of the traces of a batch.
-#[derive(Clone, Copy)]
-pub struct BatchPrinting {
-    /// How lines are written.
-    pub format: BatchFormat,
-    /// Whether the lines of traces without a violation, or of consistent ones, are left out.
-    pub quiet: bool,
-    /// Whether the texts of violations are printed in place of all lines.
-    pub violations: bool,
-    /// With how many steps at most it is decided whether each trace has an order; none where the traces are judged.
-    pub effort: Option<u64>,
-    /// How many traces have to be judged, at least, and neither refused nor undecided; none where any number will do.
-    pub required: Option<u64>,
-}
-
-/// In which form the violations of a log are shown.
-#[derive(Clone, Copy)]
-pub enum LogForm {
-    /// A report: the lines of each violation.
-    Lines,
-    /// A report: the lines of each violation, and why no memory order explains them.
-    Explained,
-    /// The trace of each violation, one after the other.
-    Traces,
-}
-
-/// How far a log is searched, how many of its violations are shown, and in which form.
-#[derive(Clone, Copy)]
-pub struct LogOptions {
-    /// How many are shown at most, 1 to 1,000,000.
-    pub most: usize,
-    /// How many steps the search may do for each load and store of the log, 0 to 1,000,000.
-    pub effort: usize,
-    /// How many of a hundred loads may have a source that the values don't tell, 0 to 100, so that the log counts as judged.
-    pub max_unknown: usize,
-    /// Whether a log without a line `end` is refused.
-    pub needs_end: bool,
-    /// In which form.
-    pub form: LogForm,
 }
 
 /// The shape of a drawn program, as numbers that no limit was compared with.
@@ -285,12 +233,10 @@ pub struct CampaignOptions {
     pub unit: UnitOptions,
     /// The number of workers that share the seeds, 1 to 64.
     pub workers: usize,
-    /// Whether each is replayed by the schedule that its seed draws, in place of a run with a thread per processor.
-    pub replayed: bool,
-    /// How many turns a drainer takes beside the processors of each run, at most 1,000,000; replays have none.
-    pub drain_turns: u64,
-    /// Whether the recorded traces are printed in place of lines.
-    pub traces: bool,
+    /// How each is executed.
+    pub execution: Execution,
+    /// What is printed.
+    pub printing: CampaignPrinting,
     /// The memory model of each program.
     pub order: Order,
     /// The seed of the first program; each further program has the next seed.

@@ -10,12 +10,12 @@ ghost use Rattle.command_line.specs.Commands.{IsAskedFor, asked_at, tsobench_app
 ghost use Rattle.command_line.specs.Internal.Computed.{AreNotesFound, IsFound, parsed_as};
 
 use crate::options::{
-    BatchPrinting, CampaignOptions, LogOptions, MakeOptions, OptionNames, Presentation, RunOptions,
-    UnitOptions, option_names,
+    CampaignOptions, MakeOptions, OptionNames, Presentation, RunOptions, UnitOptions, option_names,
 };
 use crate::subcommands;
 use clap::error::ErrorKind;
 use clap::{ArgMatches, Error};
+use request_options::{BatchPrinting, LogOptions, OutcomeOptions};
 use std::alloc::{AllocError, Global};
 
 /// Which program to run with a thread per processor, and how.
@@ -51,10 +51,8 @@ pub struct RunTimesRequest<'a> {
 pub struct OutcomesRequest<'a> {
     /// The file of the program; standard input where none is named.
     pub program: Option<&'a str>,
-    /// How many states its runs may reach, at most.
-    pub limit: u64,
-    /// Whether final states are listed, in place of traces.
-    pub states: bool,
+    /// How they are listed.
+    pub options: OutcomeOptions,
 }
 
 /// The outcomes of which program are counted in which stream of traces.

@@ -3,13 +3,15 @@ ghost use Rattle.std.specs.Prelude.{◌≡◌, ◌≤◌, codes, if◌then◌els
 ghost use Rattle.clap.specs.Words.{first_of, found_of, one_of, rows_of};
 ghost use Rattle.command_line.specs.Requests.{drain_turns_limit, run_times_limit, worker_limit};
 ghost use Rattle.command_line.specs.Pictures.{chosen_picture};
-ghost use Rattle.command_line.specs.Subcommands.{chosen_format, chosen_order, file_of, is_true, number_of, number_or, within};
+ghost use Rattle.command_line.specs.Options.{chosen_format, chosen_order, is_true, number_of, number_or, within};
+ghost use Rattle.command_line.specs.Subcommands.{file_of};
 
 use crate::options::{
-    BatchFormat, MAX_DRAIN_TURNS, MAX_RUN_TIMES, MAX_WORKERS, Presentation, format_named,
-    order_named, picture_named,
+    MAX_DRAIN_TURNS, MAX_RUN_TIMES, MAX_WORKERS, Presentation, format_named, order_named,
+    picture_named,
 };
 use clap::ArgMatches;
+use request_options::BatchFormat;
 use tso_ops::Order;
 
 /// What stands for standard input in place of the name of a file.

@@ -25,7 +25,7 @@ use Rattle.log_reports.specs.declared.findings.LogFindings.{LogFindings}
 use Rattle.log_reports.specs.declared.findings.LogViolation.{LogViolation}
 use Rattle.log_reports.specs.declared.findings.LogViolation.TheVariants.{Selection, Unwritten}
 use Rattle.log_reports.specs.declared.counts.LogCounts.{LogCounts}
-use Rattle.log_reports.specs.declared.reports.LogOptions.{LogOptions}
+use Rattle.request_options.specs.declared.logs.LogOptions.{LogOptions}
 use Rattle.trace_reports.specs.declared.answers.Answer.TheVariants.{Clear, Undecided, Violation, Refused}
 use Rattle.log_reports.specs.Findings.{AreFindings, AreWrittenIn, IsListed, has_unjudged}
 use Rattle.log_reports.specs.LogCounts.{counts_of, is_nothing_judged, is_too_unknown}

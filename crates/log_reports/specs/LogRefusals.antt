@@ -6,8 +6,8 @@ use Rattle.tso_text.specs.declared.faults.Why.TheVariants.{BadHeader, BadLine, B
 use Rattle.trace_reports.specs.RefusalLines.{refusal_text}
 use Rattle.trace_explanation.specs.Refusals.{line_shown}
 use Rattle.log_reports.specs.declared.refusal_sentences.TheConstants.{BAD_LINE, BAD_NUMBER, BAD_MODEL, INIT_ORDER, PROCESSOR_RANGE}
-use Rattle.log_reports.specs.declared.rendering.LogForm.{LogForm}
-use Rattle.log_reports.specs.declared.rendering.LogForm.TheVariants.{Lines, Explained, Traces}
+use Rattle.request_options.specs.declared.logs.LogForm.{LogForm}
+use Rattle.request_options.specs.declared.logs.LogForm.TheVariants.{Lines, Explained, Traces}
 
 -- the rule that a log with this refusal breaks: a log has no other refusals than the first five
 unfoldable pub log_sentence : Why → List ℕ

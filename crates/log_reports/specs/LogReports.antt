@@ -8,7 +8,7 @@ use Rattle.log_text.specs.LogValues.{NumberedLog}
 use Rattle.log_selections.specs.Sources.{IsAmbiguousCount}
 use Rattle.log_reports.specs.declared.findings.LogFindings.{LogFindings}
 use Rattle.log_reports.specs.declared.counts.LogCounts.{LogCounts}
-use Rattle.log_reports.specs.declared.reports.LogOptions.{LogOptions}
+use Rattle.request_options.specs.declared.logs.LogOptions.{LogOptions}
 use Rattle.trace_reports.specs.declared.answers.Answer.{Answer}
 use Rattle.trace_reports.specs.declared.answers.Answer.TheVariants.{Clear, Undecided, Violation, Refused}
 use Rattle.log_reports.specs.Findings.{AreFindings, AreWithin, AreWrittenIn, has_unjudged}

@@ -23,9 +23,9 @@ use Rattle.log_reports.specs.Findings.{has_unjudged}
 use Rattle.log_reports.specs.declared.findings.LogFindings.{LogFindings}
 use Rattle.log_reports.specs.declared.findings.LogViolation.{LogViolation}
 use Rattle.log_reports.specs.declared.findings.LogViolation.TheVariants.{Selection, Unwritten}
-use Rattle.log_reports.specs.declared.rendering.LogForm.{LogForm}
-use Rattle.log_reports.specs.declared.rendering.LogForm.TheVariants.{Lines, Explained, Traces}
-use Rattle.log_reports.specs.declared.reports.LogOptions.{LogOptions}
+use Rattle.request_options.specs.declared.logs.LogForm.{LogForm}
+use Rattle.request_options.specs.declared.logs.LogForm.TheVariants.{Lines, Explained, Traces}
+use Rattle.request_options.specs.declared.logs.LogOptions.{LogOptions}
 
 -- ---- violations
 

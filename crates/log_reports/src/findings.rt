@@ -7,10 +7,10 @@ ghost use Rattle.log_reports.specs.Findings.{AreFindings, AreWithin, AreWrittenI
 ghost use Rattle.log_reports.specs.declared.findings.LogViolation.{LogViolation};
 
 use crate::judging::TraceJudge;
-use crate::reports::LogOptions;
 use log_search::{Found, Judge, Search, fit_trace, is_within_limits, reduce};
 use log_selections::{Kept, KnownLog, Selected, Shown, UnwrittenLoad};
 use progress_meters::Meter;
+use request_options::LogOptions;
 use std::alloc::{AllocFailed, Global};
 use std::sync::Wait;
 use std::thread::Threads;

@@ -10,7 +10,7 @@ ghost use Rattle.log_selections.specs.declared.selecting.Selected.{Selected};
 ghost use Rattle.trace_reports.specs.declared.findings.Finding.{Finding};
 ghost use Rattle.log_reports.specs.declared.findings.LogViolation.{LogViolation};
 ghost use Rattle.log_reports.specs.declared.findings.LogViolation.TheVariants.{Selection};
-ghost use Rattle.log_reports.specs.declared.reports.LogOptions.{LogOptions};
+ghost use Rattle.request_options.specs.declared.logs.LogOptions.{LogOptions};
 ghost use Rattle.trace_reports.specs.declared.answers.Answer.TheVariants.{Violation};
 
 /// A log of which a violation is listed has no order of its memory model, nor have a violation's lines alone.

@@ -4,8 +4,7 @@
 #![tactic(auto)]
 
 pub use findings::{LogFindings, LogViolation, find_violations};
-pub use rendering::LogForm;
-pub use reports::{LogOptions, report_log};
+pub use reports::report_log;
 
 mod counts;
 mod findings;

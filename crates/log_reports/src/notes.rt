@@ -2,9 +2,9 @@
 
 use crate::counts::LogCounts;
 use crate::findings::{LogFindings, LogViolation};
-use crate::rendering::{LogForm, push_gaps};
-use crate::reports::LogOptions;
+use crate::rendering::push_gaps;
 use log_selections::Shown;
+use request_options::{LogForm, LogOptions};
 use std::alloc::{AllocError, Global};
 use std::fmt::Write;
 use tso_ops::OutOfMemory;

@@ -3,7 +3,7 @@ ghost use Rattle.std.specs.Prelude.{◌≡◌, ◌++◌, OnOk, string_bytes};
 ghost use Rattle.log_reports.specs.LogRefusals.{log_refusal_explanation, log_sentence, said_of_refusal};
 
 use crate::refusal_sentences::{BAD_LINE, BAD_MODEL, BAD_NUMBER, INIT_ORDER, PROCESSOR_RANGE};
-use crate::rendering::LogForm;
+use request_options::LogForm;
 use std::alloc::AllocError;
 use trace_explanation::explain_refusal;
 use tso_text::{TextFault, Why};

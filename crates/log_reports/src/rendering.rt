@@ -2,33 +2,21 @@
 ghost use Rattle.std.specs.Prelude.{◌≡◌, ◌++◌, [], ℕ, IfOk, OnOk, codes, string_bytes};
 ghost use Rattle.std.specs.Option.{option_map_or};
 ghost use Rattle.log_reports.specs.Lines.{lines_text};
-ghost use Rattle.log_reports.specs.declared.rendering.LogForm.{LogForm};
+ghost use Rattle.request_options.specs.declared.logs.LogForm.{LogForm};
 ghost use Rattle.log_reports.specs.LogTexts.{count_text, counts_text, explained_text, found_text, gaps_text, numbered_from, report_text, store_text, stored_text, text_in, total_text, trace_of, traces_text, unknown_text, unsearched_text, verdict_text, violation_text, words_if};
 
 use crate::counts::LogCounts;
 use crate::findings::{LogFindings, LogViolation};
 use crate::lines::{push_line, push_lines};
 use crate::naming::name_events;
-use crate::reports::LogOptions;
 use log_selections::{KnownLog, LoggedStore, Selected, Shown, UnwrittenLoad, lone_load};
+use request_options::{LogForm, LogOptions};
 use std::alloc::{AllocError, Global};
 use std::fmt::Write;
 use trace_explanation::explain_named;
 use trace_reports::Finding;
 use tso_ops::{Order, OutOfMemory};
 use tso_text::print_trace;
-
-/// What is printed of a log.
-#[derive(Clone, Copy, Debug, PartialEq, Eq)]
-pub enum LogForm {
-    /// The report: the lines of each violation.
-    Lines,
-    /// The report, and after each violation's lines its explanation; or the line of a refusal, and what explains it.
-    Explained,
-    /// The texts of the violations' traces, one after another, and no report. That of a load of what nothing wrote has such a load
-    /// alone.
-    Traces,
-}
 
 /// What is printed of what was found in a log that has so much. OutOfMemory where an allocation was refused.
 pub(crate) fn render(

@@ -16,10 +16,11 @@ use crate::counts::LogCounts;
 use crate::findings::{LogFindings, find_violations};
 use crate::notes::render_notes;
 use crate::refusals::push_said_of_refusal;
-use crate::rendering::{LogForm, render};
+use crate::rendering::render;
 use log_selections::KnownLog;
 use log_text::{Log, read_log};
 use progress_meters::TotalMeter;
+use request_options::{LogForm, LogOptions};
 use std::alloc::Global;
 use std::io::{Read, Write};
 use std::sync::Wait;
@@ -29,20 +30,6 @@ use trace_reports::{Answer, render_refusal};
 use tso_ops::OutOfMemory;
 use tso_text::TextFault;
 
-/// How a log is reported on.
-#[derive(Clone, Copy, Debug, PartialEq, Eq)]
-pub struct LogOptions {
-    /// How many violations are listed at most, and beside them how many loads of what nothing wrote.
-    pub most: usize,
-    /// How many steps the search may do for each load and store of the log, and for 50,000 more.
-    pub effort: usize,
-    /// How many of a hundred loads may have a source that the values don't tell, where all is said to be judged.
-    pub max_unknown: usize,
-    /// Whether a text without the line `end` is refused.
-    pub needs_end: bool,
-    /// What is printed.
-    pub form: LogForm,
-}
 /// What is printed of a log, and notes on what isn't.
 #[derive(Drop)]
 struct LogReport {

@@ -19,8 +19,8 @@ use Rattle.final_states.specs.FinalStates.{IsRunTrace}
 use Rattle.outcome_reports.specs.Outcomes.{AreTracesOf, IsListing, traces_text}
 use Rattle.outcome_reports.specs.SeenTraces.{AreSightings, CountsSeen, IsSighting, is_foreign, is_seen, is_unreached, seen_text, seen_total, seen_verdict}
 use Rattle.outcome_reports.specs.StateLines.{states_text}
-use Rattle.outcome_reports.specs.declared.options.OutcomeForm.{OutcomeForm}
-use Rattle.outcome_reports.specs.declared.options.OutcomeForm.TheVariants.{Traces, States}
+use Rattle.request_options.specs.declared.outcomes.OutcomeForm.{OutcomeForm}
+use Rattle.request_options.specs.declared.outcomes.OutcomeForm.TheVariants.{Traces, States}
 use Rattle.outcome_reports.specs.declared.sightings.Sighting.{Sighting}
 use Rattle.outcome_reports.specs.declared.sightings.Sighting.TheVariants.{Seen, Unreached, Foreign}
 use Rattle.outcome_reports.proofs.ReadValues.{run_of_program}

@@ -12,9 +12,9 @@ use Rattle.trace_reports.specs.declared.answers.Answer.{Answer}
 use Rattle.trace_reports.specs.declared.answers.Answer.TheVariants.{Clear, Refused}
 use Rattle.final_states.specs.FinalStates.{AreFinalStatesOf, FinalStateValue, IsRunTrace, is_below, values_read}
 use Rattle.final_states.specs.RunStates.{ReachesMore}
-use Rattle.outcome_reports.specs.declared.options.OutcomeForm.{OutcomeForm}
-use Rattle.outcome_reports.specs.declared.options.OutcomeForm.TheVariants.{Traces, States}
-use Rattle.outcome_reports.specs.declared.options.OutcomeOptions.{OutcomeOptions}
+use Rattle.request_options.specs.declared.outcomes.OutcomeForm.{OutcomeForm}
+use Rattle.request_options.specs.declared.outcomes.OutcomeForm.TheVariants.{Traces, States}
+use Rattle.request_options.specs.declared.outcomes.OutcomeOptions.{OutcomeOptions}
 use Rattle.outcome_reports.specs.StateLines.{states_text}
 
 -- ---- the traces of a program

@@ -5,7 +5,7 @@ ghost use Rattle.tso_ops.specs.Values.{ProgramValue, TraceValue};
 ghost use Rattle.trace_reports.specs.declared.answers.Answer.{Answer};
 ghost use Rattle.outcome_reports.specs.Outcomes.{AreTracesOf, IsListing};
 ghost use Rattle.outcome_reports.specs.SeenTraces.{AreSightings, CountsSeen, IsSighting, is_foreign, is_unreached, seen_total};
-ghost use Rattle.outcome_reports.specs.declared.options.OutcomeForm.{OutcomeForm};
+ghost use Rattle.request_options.specs.declared.outcomes.OutcomeForm.{OutcomeForm};
 ghost use Rattle.outcome_reports.specs.declared.sightings.Sighting.{Sighting};
 
 /// A program has one list of traces, and in each form one text of its outcomes.

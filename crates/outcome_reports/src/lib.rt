@@ -4,7 +4,6 @@
 #![tactic(auto)]
 
 pub use listing::list_outcomes;
-pub use options::{OutcomeForm, OutcomeOptions};
 pub use seen::count_seen;
 
 mod counts;
@@ -12,7 +11,6 @@ mod different;
 pub mod laws;
 mod lines;
 mod listing;
-mod options;
 mod places;
 mod seen;
 mod sightings;

@@ -13,8 +13,8 @@ ghost use Rattle.outcome_reports.specs.Outcomes.{IsListing, IsOutcomes, IsOutcom
 
 use crate::different::{list_traces, print_traces};
 use crate::lines::print_states;
-use crate::options::{OutcomeForm, OutcomeOptions};
 use final_states::{FinalState, StatesFault, final_states};
+use request_options::{OutcomeForm, OutcomeOptions};
 use std::alloc::Global;
 use std::io::{Read, Write};
 use text_streams::{Fault, read_all, write_text};

@@ -10,7 +10,7 @@ use Rattle.std.proofs.Math.Seq.{take-append_seam}
 use Rattle.std.proofs.lemmas.Bool.{and_parts}
 use Rattle.std.proofs.lemmas.List.{append-nil, length-append, map-append, take-append-drop, take_more}
 use Rattle.std.proofs.lemmas.List.Sums.{sum_by-append, sum_by-cons}
-use Rattle.trace_batches.specs.declared.batches.BatchPrinting.{BatchPrinting}
+use Rattle.request_options.specs.declared.batches.BatchPrinting.{BatchPrinting}
 use Rattle.trace_batches.specs.declared.begun.Batch.{Batch}
 use Rattle.trace_batches.specs.Batches.{AreResults, AreResultsOf, asked, BatchText, HasJudged, HasWritten, IsBatchFault, Judges, LeavesBatch, LeavesText, TextResults, WritesBatch, head_text, read_text, unread_text}
 use Rattle.text_streams.specs.Streams.{AppendsPrefix}

@@ -14,7 +14,6 @@ use Rattle.command_line.specs.Spellings.{Asks}
 use Rattle.command_line.proofs.FileSpellings.{asks_check, asks_decide, asks_decide_input, asks_judge, asks_judge_input, asks_log, asks_log_input, log_options}
 use Rattle.request_texts.specs.OpenedFiles.{text_bytes}
 use Rattle.request_serving.specs.Endings.{Does, EndsLogged, LeadTo, Outputs}
-use Rattle.request_serving.specs.Logs.{options_of}
 use Rattle.request_serving.specs.FileCommands.{EndsChecked, EndsDecided, EndsJudged, IsLogWithoutOrder}
 
 memory_is_no_thread : OutOfMemory ≡ NoThread → ⊥
@@ -41,13 +40,13 @@ module _ (input : Option (List ℕ)) (files : List ℕ → Option (List ℕ)) (o
   says_violation Violation is = refl
   says_violation Unread is = absurd (omega (arith, is))
 
-  has_no_order : (bytes : Option (List ℕ)) (text : List ℕ) → ReadsAs bytes (λ all. IsLogReport (options_of log_options) all text Violation) → IsLogWithoutOrder bytes
+  has_no_order : (bytes : Option (List ℕ)) (text : List ℕ) → ReadsAs bytes (λ all. IsLogReport log_options all text Violation) → IsLogWithoutOrder bytes
   has_no_order None text report = tt
-  has_no_order (Some all) text report = report_violation (options_of log_options) all text report.of_all
+  has_no_order (Some all) text report = report_violation log_options all text report.of_all
 
-  no_order : (bytes : Option (List ℕ)) → EndsLogged (options_of log_options) bytes o status → status ≡ 3 → IsLogWithoutOrder bytes
+  no_order : (bytes : Option (List ℕ)) → EndsLogged log_options bytes o status → status ≡ 3 → IsLogWithoutOrder bytes
   no_order bytes (inl (answer, writes, notes, gives)) three =
-      has_no_order bytes writes.0 (subst (λ a. ReadsAs bytes (λ all. IsLogReport (options_of log_options) all writes.0 a)) (says_violation answer (sym gives ∙ three)) writes.1)
+      has_no_order bytes writes.0 (subst (λ a. ReadsAs bytes (λ all. IsLogReport log_options all writes.0 a)) (says_violation answer (sym gives ∙ three)) writes.1)
   no_order bytes (inr (fault, leaves, told)) three = absurd (omega (arith, told.1, three))
 
   logged : (file : Option Text) → Does (logging file log_options) input files o status → status ≡ 3 → IsLogWithoutOrder (text_bytes file input files)

@@ -1,10 +1,10 @@
 -- Lemmas on the reports on logs, and on texts with notes.
-use Rattle.std.proofs.Common.{◌≡◌, ◌∙◌, ℕ, List, ◌++◌, Err, None, Ok, Result, Some, IfErr, IfOk, ap, inl, inr, subst, take}
+use Rattle.std.proofs.Common.{◌≡◌, ◌∙◌, ℕ, List, ◌++◌, Err, None, Ok, Result, Some, IfErr, IfOk, ap, inl, inr, take}
 use Rattle.std.specs.Prelude.{OnErr, Option, codes}
 use Rattle.std.specs.Fmt.{decimal}
 use Rattle.std.specs.Io.KnownBytes.{Appends, Keeps}
 use Rattle.std.proofs.KnownBytes.{Appends-kept}
-use Rattle.log_reports.specs.declared.reports.LogOptions.{LogOptions}
+use Rattle.request_options.specs.declared.logs.LogOptions.{LogOptions}
 use Rattle.trace_reports.specs.declared.answers.Answer.{Answer}
 use Rattle.log_reports.specs.LogReports.{IsLogReport, IsLogReportOfReader}
 use Rattle.text_streams.specs.Streams.{AppendsPrefix}
@@ -15,11 +15,10 @@ use Rattle.request_serving.specs.Endings.{EndsWithNotes, Outputs, WritesFaultLin
 use Rattle.request_texts.specs.OpenedFiles.{HasKnown}
 use Rattle.request_texts.proofs.KnownFacts.{known_reads}
 
--- the report of a file of which less may be known, as it was asked for
-pub logged_of_known : (asked options : LogOptions) (known remaining : Option (List ℕ)) → options ≡ asked → HasKnown known remaining → (text : List ℕ) (verdict : Answer) → IsLogReportOfReader options remaining text verdict →
-    IsLogReportOfReader asked known text verdict
-logged_of_known asked options known remaining is has text verdict report =
-    subst (λ f. IsLogReportOfReader f known text verdict) is (known_reads known remaining has (λ bytes. IsLogReport options bytes text verdict) report)
+-- the report of a file of which less may be known
+pub logged_of_known : (options : LogOptions) (known remaining : Option (List ℕ)) → HasKnown known remaining → (text : List ℕ) (verdict : Answer) → IsLogReportOfReader options remaining text verdict →
+    IsLogReportOfReader options known text verdict
+logged_of_known options known remaining has text verdict = known_reads known remaining has (λ bytes. IsLogReport options bytes text verdict)
 
 -- ---- what is written to the errors before and after
 

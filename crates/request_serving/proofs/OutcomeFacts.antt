@@ -4,7 +4,7 @@ use Rattle.std.specs.Prelude.{Option}
 use Rattle.tso_ops.specs.Values.{ProgramValue}
 use Rattle.trace_reports.specs.declared.answers.Answer.{Answer}
 use Rattle.text_streams.proofs.ReadingFacts.{reads_more}
-use Rattle.outcome_reports.specs.declared.options.OutcomeOptions.{OutcomeOptions}
+use Rattle.request_options.specs.declared.outcomes.OutcomeOptions.{OutcomeOptions}
 use Rattle.outcome_reports.specs.Outcomes.{IsOutcomes, IsOutcomesOfReader, IsSaidOfProgram}
 use Rattle.outcome_reports.specs.SeenTraces.{CountsSeen, IsSeenOf, IsSeenOfReaders}
 use Rattle.request_texts.specs.OpenedFiles.{HasKnown}

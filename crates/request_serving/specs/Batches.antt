@@ -1,27 +1,6 @@
--- The texts of a batch, and what is printed of it, as they were asked for.
+-- The texts of a batch, as they were asked for.
 use Rattle.std.specs.Prelude.{◌≡◌, ◌⊎◌, ℕ, Bool, List, [], ◌∷◌, Option, Some, None, codes, length, nat_lt, unwrap_or, if◌then◌else◌}
-use Rattle.command_line.specs.declared.options.BatchFormat.{BatchFormat as AskedFormat}
-use Rattle.command_line.specs.declared.options.BatchFormat.TheVariants as asked
-use Rattle.command_line.specs.declared.options.BatchPrinting.{BatchPrinting as AskedPrinting}
 use Rattle.trace_batches.specs.Batches.{BatchText, read_text, unread_text}
-use Rattle.trace_batches.specs.declared.batches.BatchFormat.{BatchFormat}
-use Rattle.trace_batches.specs.declared.batches.BatchFormat.TheVariants.{Words, Json, Junit}
-use Rattle.trace_batches.specs.declared.batches.BatchMethod.{BatchMethod}
-use Rattle.trace_batches.specs.declared.batches.BatchMethod.TheVariants.{Judge, Decide}
-use Rattle.trace_batches.specs.declared.batches.BatchPrinting.{BatchPrinting}
-
-abbrev pub asked_format : AskedFormat → BatchFormat
-asked_format asked.Words = Words
-asked_format asked.Json = Json
-asked_format asked.Junit = Junit
-
--- traces are judged, or with an effort decided
-abbrev pub asked_method : Option ℕ → BatchMethod
-asked_method None = Judge
-asked_method (Some effort) = Decide effort
-
-abbrev pub asked_printing : AskedPrinting → BatchPrinting
-asked_printing printing = record { method = asked_method printing.effort; format = asked_format printing.format; quiet = printing.quiet; violations = printing.violations; required = printing.required }
 
 -- the name of a text in its lines, `-` for standard input, where there are several texts
 abbrev pub told_name : Bool → Option (List ℕ) → Option (List ℕ)

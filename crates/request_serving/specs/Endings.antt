@@ -12,20 +12,18 @@ use Rattle.text_streams.specs.WrittenTexts.{LeavesAtFault, WritesWhole}
 use Rattle.text_streams.specs.Readings.{ReadsAs}
 use Rattle.trace_reports.specs.Renderings.{IsTextOfInput}
 use Rattle.trace_batches.specs.Batches.{BatchText, IsBatchFault, LeavesBatch, WritesBatch}
-use Rattle.trace_batches.specs.declared.batches.BatchPrinting.{BatchPrinting}
+use Rattle.request_options.specs.declared.batches.BatchPrinting.{BatchPrinting}
 use Rattle.trace_reports.specs.declared.answers.Answer.{Answer}
-use Rattle.log_reports.specs.declared.reports.LogOptions.{LogOptions}
+use Rattle.request_options.specs.declared.logs.LogOptions.{LogOptions}
 use Rattle.log_reports.specs.LogReports.{IsLogReportOfReader}
 use Rattle.outcome_reports.specs.Outcomes.{IsOutcomesOfReader}
 use Rattle.outcome_reports.specs.SeenTraces.{IsSeenOfReaders}
-use Rattle.request_serving.specs.Batches.{AreTextsOfBatch, asked_printing}
+use Rattle.request_serving.specs.Batches.{AreTextsOfBatch}
 use Rattle.run_serving.specs.Campaigning.{IsCampaignText, LeavesCampaignText}
 use Rattle.request_serving.specs.Deciding.{IsDecided, IsVerificationOfNth}
-use Rattle.request_serving.specs.Logs.{options_of}
 use Rattle.run_serving.specs.MadePrograms.{IsMadeText, LeavesMadeText}
 use Rattle.request_texts.specs.NthTraces.{IsSaidOfNth}
 use Rattle.request_texts.specs.OpenedFiles.{text_bytes}
-use Rattle.request_serving.specs.Outcomes.{asked_outcomes}
 use Rattle.request_serving.specs.Presentations.{refused_as, said_as}
 use Rattle.request_serving.specs.Reducing.{IsReduced}
 use Rattle.run_serving.specs.Replaying.{IsReplayText}
@@ -175,12 +173,12 @@ EndsAsAsked (judging presentation file workers nth) input files o status = EndsB
 EndsAsAsked (deciding presentation file workers nth effort) input files o status =
     let is_text = IsDecided presentation effort nth (text_bytes file input files) in Ends is_text status_of_answer (LeavesAtFault is_text) o status
 EndsAsAsked (reducing file nth) input files o status = EndsWithNotes (IsReduced nth (text_bytes file input files)) status_of o status
-EndsAsAsked (batching texts workers printing) input files o status = EndsBatched (asked_printing printing) (AreTextsOfBatch texts input files) o status
-EndsAsAsked (logging file options) input files o status = EndsLogged (options_of options) (text_bytes file input files) o status
+EndsAsAsked (batching texts workers printing) input files o status = EndsBatched printing (AreTextsOfBatch texts input files) o status
+EndsAsAsked (logging file options) input files o status = EndsLogged options (text_bytes file input files) o status
 EndsAsAsked (checking trace certificate nth) input files o status = EndsWithoutThread (IsCheckOfNth nth (text_bytes trace input files) (text_bytes certificate input files)) status_of o status
 EndsAsAsked (verifying trace evidence nth) input files o status =
     EndsWithoutThread (IsVerificationOfNth nth (text_bytes trace input files) (text_bytes evidence input files)) status_of_answer o status
-EndsAsAsked (listing program limit states) input files o status = EndsWithoutThread (IsOutcomesOfReader (asked_outcomes limit states) (text_bytes program input files)) status_of_answer o status
+EndsAsAsked (listing program options) input files o status = EndsWithoutThread (IsOutcomesOfReader options (text_bytes program input files)) status_of_answer o status
 EndsAsAsked (counting program stream limit) input files o status =
     EndsWithoutThread (IsSeenOfReaders limit (text_bytes program input files) (text_bytes stream input files)) status_of_answer o status
 EndsAsAsked (replaying options program schedule) input files o status =

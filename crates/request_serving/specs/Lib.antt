@@ -4,7 +4,5 @@ pub mod Endings
 pub mod FileCommands
 pub mod Internal
 pub mod LawfulRequests
-pub mod Logs
-pub mod Outcomes
 pub mod Presentations
 pub mod Reducing

@@ -4,10 +4,10 @@ use Rattle.drawn_programs.specs.Making.{IsShape}
 use Rattle.command_line.specs.declared.options.CampaignOptions.{CampaignOptions}
 use Rattle.tso_report.specs.Campaigns.{IsCampaign, LeavesOfSeeds}
 use Rattle.tso_report.specs.declared.campaigns.CampaignPlan.{CampaignPlan}
-use Rattle.tso_report.specs.declared.campaigns.CampaignPrinting.{CampaignPrinting}
-use Rattle.tso_report.specs.declared.campaigns.CampaignPrinting.TheVariants.{Lines, Traces}
-use Rattle.tso_report.specs.declared.campaigns.Execution.{Execution}
-use Rattle.tso_report.specs.declared.campaigns.Execution.TheVariants.{Threads, Replay}
+use Rattle.request_options.specs.declared.campaigns.CampaignPrinting.{CampaignPrinting}
+use Rattle.request_options.specs.declared.campaigns.CampaignPrinting.TheVariants.{Lines, Traces}
+use Rattle.request_options.specs.declared.campaigns.Execution.{Execution}
+use Rattle.request_options.specs.declared.campaigns.Execution.TheVariants.{Threads, Replay}
 use Rattle.text_streams.specs.declared.faults.Fault.{Fault}
 use Rattle.tso_report.specs.Limits.{seed_count_limit}
 use Rattle.trace_reports.specs.declared.verdicts.Verdict.{Verdict}
@@ -25,24 +25,14 @@ pub record AreSeeds (first count : ℕ) : Type 0 where
   pub most : count ≤ seed_count_limit
   pub last : first + count ≤ 2 ^ 64
 
--- how programs are executed: by a thread per processor beside a drainer that takes so many turns, unless a replay is asked for
-abbrev pub execution_of : Bool → ℕ → Execution
-execution_of true drain_turns = Replay
-execution_of false drain_turns = Threads drain_turns
-
--- what is printed of a campaign: lines, unless traces are asked for
-abbrev pub campaign_printing_of : Bool → CampaignPrinting
-campaign_printing_of true = Traces
-campaign_printing_of false = Lines
-
 -- the plan that the options ask for
 abbrev pub asked_plan : CampaignOptions → CampaignPlan
 asked_plan options = record {
   first = options.first;
   order = options.order;
   shape = asked_shape options.shape;
-  execution = execution_of options.replayed options.drain_turns;
-  printing = campaign_printing_of options.traces;
+  execution = options.execution;
+  printing = options.printing;
 }
 
 -- It is the plan that the options ask for, within the limits.

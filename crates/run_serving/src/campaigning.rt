@@ -2,7 +2,7 @@
 ghost use Rattle.std.specs.Prelude.{◌≡◌, ◌⊎◌, ◌≤◌, Decides, IfOk, IfErr, map, replicate};
 ghost use Rattle.trace_judging.specs.Limits.{HasWorkerRange};
 ghost use Rattle.run_serving.specs.Ranges.{IsCampaignInRange};
-ghost use Rattle.run_serving.specs.Campaigning.{AreSeeds, IsCampaignText, IsPlanOf, LeavesCampaignText, campaign_printing_of, execution_of};
+ghost use Rattle.run_serving.specs.Campaigning.{AreSeeds, IsCampaignText, IsPlanOf, LeavesCampaignText};
 ghost use Rattle.run_serving.specs.Printing.{unit_of};
 ghost use Rattle.text_streams.specs.WrittenTexts.{WritesWhole};
 
@@ -16,7 +16,7 @@ use std::sync::Wait;
 use std::thread::Threads;
 use text_streams::{Fault, write_text};
 use trace_reports::{REFUSED, status_of};
-use tso_report::{CampaignPlan, CampaignPrinting, Execution, MAX_SEEDS, campaign_over};
+use tso_report::{CampaignPlan, MAX_SEEDS, campaign_over};
 use unit_core::MemoryUnit;
 
 /// The line of seeds that aren't within their limits.
@@ -37,31 +37,9 @@ fn asked_plan(options: &CampaignOptions) -> Result<CampaignPlan, &'static [u8]>
         first: options.first,
         order: options.order,
         shape,
-        execution: execution_of(options.replayed, options.drain_turns),
-        printing: campaign_printing_of(options.traces),
+        execution: options.execution,
+        printing: options.printing,
     })
-}
-
-/// How programs are executed, by whether a replay is asked for, and else with so many turns of a drainer.
-fn execution_of(replayed: bool, drain_turns: u64) -> Execution
-    ensures { result ≡ execution_of replayed drain_turns }
-{
-    if replayed {
-        Execution::Replay
-    } else {
-        Execution::Threads { drain_turns }
-    }
-}
-
-/// What is printed of a campaign, by whether traces are asked for.
-fn campaign_printing_of(traces: bool) -> CampaignPrinting
-    ensures { result ≡ campaign_printing_of traces }
-{
-    if traces {
-        CampaignPrinting::Traces
-    } else {
-        CampaignPrinting::Lines
-    }
 }
 
 /// The limits that are told where these options are refused: those of the shape, or else of the seeds.

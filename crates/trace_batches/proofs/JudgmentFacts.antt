@@ -40,8 +40,8 @@ use Rattle.trace_decisions.specs.Decisions.{IsDecision, Tells}
 use Rattle.trace_decisions.specs.DecisionTexts.{answer_of, IsDecisionText}
 use Rattle.trace_explanation.specs.Explained.{explained, refusal_explained}
 use Rattle.decision_explanation.specs.Explained.{decision_explained}
-use Rattle.trace_batches.specs.declared.batches.BatchMethod.{BatchMethod}
-use Rattle.trace_batches.specs.declared.batches.BatchMethod.TheVariants.{Judge, Decide}
+use Rattle.request_options.specs.declared.batches.BatchMethod.{BatchMethod}
+use Rattle.request_options.specs.declared.batches.BatchMethod.TheVariants.{Judge, Decide}
 use Rattle.trace_batches.specs.declared.judgments.Judgment.{Judgment}
 use Rattle.trace_batches.specs.declared.judgments.Judgment.TheVariants.{NoViolation, Violation, Consistent, Undecided, Refused}
 use Rattle.trace_batches.specs.declared.questions.Question.{Question}

@@ -3,8 +3,8 @@ use Rattle.std.proofs.Common.{◌≡◌, ℕ, ◌+◌, Bool, true, false, ◌||�
 use Rattle.std.specs.Prelude.{Option}
 use Rattle.std.proofs.lemmas.List.{append-nil}
 use Rattle.text_streams.proofs.ReadingFacts.{reads_whole}
-use Rattle.trace_batches.specs.declared.batches.BatchMethod.TheVariants.{Judge}
-use Rattle.trace_batches.specs.declared.batches.BatchPrinting.{BatchPrinting}
+use Rattle.request_options.specs.declared.batches.BatchMethod.TheVariants.{Judge}
+use Rattle.request_options.specs.declared.batches.BatchPrinting.{BatchPrinting}
 use Rattle.trace_batches.specs.declared.judgments.Judgment.{Judgment}
 use Rattle.trace_batches.specs.declared.questions.Question.{Question}
 use Rattle.trace_batches.specs.Batches.{AreFound, AreResults, AreResultsOf, AreResultsOfAll, BatchText, TextResults, all_judgments, any_unread, count_violations, known_texts, next_notes, read_text, results_notes, results_notes_of_all, results_text, results_texts}

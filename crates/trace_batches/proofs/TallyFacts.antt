@@ -10,8 +10,8 @@ use Rattle.trace_reports.specs.declared.answers.Answer.TheVariants.{Clear, Viola
 use Rattle.trace_batches.specs.declared.tallies.Tally.{Tally}
 use Rattle.trace_batches.specs.Batches.{Counts, batch_verdict, count_judged}
 use Rattle.trace_batches.specs.BatchLines.{are_too_few, tally_of, total_line, total_text}
-use Rattle.trace_batches.specs.declared.batches.BatchFormat.{BatchFormat}
-use Rattle.trace_batches.specs.declared.batches.BatchMethod.{BatchMethod}
+use Rattle.request_options.specs.declared.batches.BatchFormat.{BatchFormat}
+use Rattle.request_options.specs.declared.batches.BatchMethod.{BatchMethod}
 use Rattle.trace_batches.specs.declared.judgments.Judgment.{Judgment}
 use Rattle.trace_batches.specs.declared.judgments.Judgment.TheVariants as said
 use Rattle.trace_batches.specs.Judgments.{is_judged, says_consistent, says_refused, says_undecided, says_violation}

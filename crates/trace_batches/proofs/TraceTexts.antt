@@ -6,7 +6,7 @@ use Rattle.std.proofs.lemmas.List.{append-nil}
 use Rattle.tso_ops.specs.Values.{TraceValue}
 use Rattle.tso_text.specs.Printed.{trace_text}
 use Rattle.trace_streams.proofs.TracePieces.{pieces_of_traces}
-use Rattle.trace_batches.specs.declared.batches.BatchPrinting.{BatchPrinting}
+use Rattle.request_options.specs.declared.batches.BatchPrinting.{BatchPrinting}
 use Rattle.trace_batches.specs.declared.judgments.Judgment.{Judgment}
 use Rattle.trace_reports.specs.declared.answers.Answer.{Answer}
 use Rattle.trace_batches.specs.Batches.{AreResultsOfAll, asked, IsBatch, TextResults, all_judgments, head_text, known_texts, last_line, last_text, pieces_text, results_text, results_texts, under_name, unread_text_line}

@@ -7,9 +7,9 @@ use Rattle.std.proofs.lemmas.List.{append-nil}
 use Rattle.text_streams.specs.Readings.{ReadsAs}
 use Rattle.text_streams.specs.Streams.{AppendsPrefix}
 use Rattle.text_streams.proofs.StreamFacts.{none_written, prefix_after, prefix_of_more, whole_written}
-use Rattle.trace_batches.specs.declared.batches.BatchFormat.{BatchFormat}
-use Rattle.trace_batches.specs.declared.batches.BatchMethod.TheVariants.{Judge}
-use Rattle.trace_batches.specs.declared.batches.BatchPrinting.{BatchPrinting}
+use Rattle.request_options.specs.declared.batches.BatchFormat.{BatchFormat}
+use Rattle.request_options.specs.declared.batches.BatchMethod.TheVariants.{Judge}
+use Rattle.request_options.specs.declared.batches.BatchPrinting.{BatchPrinting}
 use Rattle.trace_batches.specs.declared.batches.TextJudging.{TextJudging}
 use Rattle.trace_batches.specs.declared.begun.Batch.{Batch}
 use Rattle.trace_batches.specs.declared.judgments.Judgment.{Judgment}

@@ -4,10 +4,10 @@ use Rattle.std.specs.Fmt.{decimal}
 use Rattle.std.specs.List.{count_by}
 use Rattle.tso_text.specs.declared.faults.TextFault.{TextFault}
 use Rattle.tso_text.specs.RefusalNames.{refusal_name}
-use Rattle.trace_batches.specs.declared.batches.BatchFormat.{BatchFormat}
-use Rattle.trace_batches.specs.declared.batches.BatchFormat.TheVariants.{Words, Json, Junit}
-use Rattle.trace_batches.specs.declared.batches.BatchMethod.{BatchMethod}
-use Rattle.trace_batches.specs.declared.batches.BatchMethod.TheVariants.{Judge, Decide}
+use Rattle.request_options.specs.declared.batches.BatchFormat.{BatchFormat}
+use Rattle.request_options.specs.declared.batches.BatchFormat.TheVariants.{Words, Json, Junit}
+use Rattle.request_options.specs.declared.batches.BatchMethod.{BatchMethod}
+use Rattle.request_options.specs.declared.batches.BatchMethod.TheVariants.{Judge, Decide}
 use Rattle.trace_batches.specs.declared.judgments.Judgment.{Judgment}
 use Rattle.trace_batches.specs.declared.judgments.Judgment.TheVariants.{NoViolation, Violation, Consistent, Undecided, Refused}
 use Rattle.trace_batches.specs.declared.tallies.Tally.{Tally}

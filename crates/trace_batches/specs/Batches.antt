@@ -2,9 +2,9 @@
 use Rattle.std.specs.Prelude.{◌≡◌, ◌+◌, ℕ, suc, Bool, true, false, List, [], ◌∷◌, ◌++◌, Option, Some, None, length, map, if◌then◌else◌}
 use Rattle.std.specs.Io.KnownBytes.{Appends}
 use Rattle.std.specs.List.{count_by, list_any}
-use Rattle.trace_batches.specs.declared.batches.BatchFormat.{BatchFormat}
-use Rattle.trace_batches.specs.declared.batches.BatchFormat.TheVariants.{Words, Json, Junit}
-use Rattle.trace_batches.specs.declared.batches.BatchPrinting.{BatchPrinting}
+use Rattle.request_options.specs.declared.batches.BatchFormat.{BatchFormat}
+use Rattle.request_options.specs.declared.batches.BatchFormat.TheVariants.{Words, Json, Junit}
+use Rattle.request_options.specs.declared.batches.BatchPrinting.{BatchPrinting}
 use Rattle.trace_batches.specs.declared.begun.Batch.{Batch}
 use Rattle.trace_batches.specs.declared.judgments.Judgment.{Judgment}
 use Rattle.trace_batches.specs.declared.judgments.Judgment.TheVariants as judged

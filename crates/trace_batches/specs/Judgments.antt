@@ -4,8 +4,8 @@ use Rattle.tso_ops.specs.Values.{TraceValue}
 use Rattle.tso_text.specs.Refusals.{IsTraceRefusal}
 use Rattle.tso_text.specs.Texts.{SpellsTrace}
 use Rattle.tso_model.specs.Axioms.{IsConsistent}
-use Rattle.trace_batches.specs.declared.batches.BatchMethod.{BatchMethod}
-use Rattle.trace_batches.specs.declared.batches.BatchMethod.TheVariants.{Judge, Decide}
+use Rattle.request_options.specs.declared.batches.BatchMethod.{BatchMethod}
+use Rattle.request_options.specs.declared.batches.BatchMethod.TheVariants.{Judge, Decide}
 use Rattle.trace_batches.specs.declared.judgments.Judgment.{Judgment}
 use Rattle.trace_batches.specs.declared.judgments.Judgment.TheVariants.{NoViolation, Violation, Consistent, Undecided, Refused}
 use Rattle.trace_batches.specs.declared.questions.Question.{Question}

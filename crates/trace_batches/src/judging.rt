@@ -7,7 +7,7 @@ ghost use Rattle.trace_batches.specs.BatchNames.{text_label};
 ghost use Rattle.trace_batches.specs.Batches.{Counts, EndsBatch, HasJudged, IsBatchFault, Judges, LeavesBatch, LeavesEnd, LeavesText, WritesBatch, head_text, last_format, last_text, note_text, one_text, read_text, unread_text, verdict_with};
 ghost use Rattle.trace_batches.specs.declared.judgments.Judgment.{Judgment};
 
-use crate::batches::{BatchOptions, BatchPrinting, TextJudging, judge_pieces};
+use crate::batches::{BatchOptions, TextJudging, judge_pieces};
 use crate::begun::Batch;
 use crate::lines::{head, last_format};
 use crate::names::text_label;
@@ -15,6 +15,7 @@ use crate::notes::unread_line;
 use crate::tallies::{Tally, are_too_few};
 use crate::totals::{few_line, total_line};
 use progress_meters::{Meter, NoMeter};
+use request_options::BatchPrinting;
 use std::alloc::Global;
 use std::io::{Read, Write};
 use std::sync::Wait;

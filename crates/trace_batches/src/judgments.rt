@@ -7,12 +7,12 @@ ghost use Rattle.trace_reports.specs.Findings.{IsFinding};
 ghost use Rattle.trace_batches.specs.Batches.{IsBatchFault};
 ghost use Rattle.trace_batches.specs.Internal.Decided.{is_order, judgment_of};
 ghost use Rattle.trace_batches.specs.Judgments.{asking, IsJudgment, IsJudgmentOn};
-ghost use Rattle.trace_batches.specs.declared.batches.BatchMethod.TheVariants.{Judge};
+ghost use Rattle.request_options.specs.declared.batches.BatchMethod.TheVariants.{Judge};
 ghost use Rattle.trace_batches.specs.declared.questions.Question.{Question};
 
-use crate::batches::BatchMethod;
 use crate::questions::{FailureBody, Question, explain_decision, explain_finding};
 use acyclic_traces::is_shown_acyclic;
+use request_options::BatchMethod;
 use std::alloc::Global;
 use std::sync::Wait;
 use std::thread::Threads;

@@ -3,7 +3,7 @@
 //! `README.md` says what is proved.
 #![tactic(auto)]
 
-pub use batches::{BatchFormat, BatchMethod, BatchOptions, BatchPrinting};
+pub use batches::BatchOptions;
 pub use begun::Batch;
 pub use judging::judge_batch;
 

@@ -5,9 +5,10 @@ ghost use Rattle.trace_batches.specs.Batches.{head_text, is_left_out, last_forma
 ghost use Rattle.trace_batches.specs.Internal.Progress.{printing_by};
 ghost use Rattle.trace_batches.specs.BatchLines.{head_of, json_line, json_refusal, json_undecided, json_verdict, trace_line, word_line};
 
-use crate::batches::{BatchFormat, BatchPrinting, TextJudging};
+use crate::batches::TextJudging;
 use crate::judgments::Judgment;
 use crate::suites::{JUNIT_HEAD, junit_line};
+use request_options::{BatchFormat, BatchPrinting};
 use std::alloc::Global;
 use std::fmt::Write;
 use trace_reports::{render_refusal, verdict_line};

@@ -2,7 +2,7 @@
 ghost use Rattle.std.specs.Prelude.{◌≡◌, ◌<◌, ◌++◌, None, Some, IfOk, OnOk, option_map, string_bytes};
 ghost use Rattle.trace_batches.specs.BatchNames.{hexadecimal_digit, control_escape, escaped_text, is_outside_xml, is_xml_space, json_character, text_character, plain_xml_character, text_label, word_character, xml_character};
 
-use crate::batches::BatchFormat;
+use request_options::BatchFormat;
 use std::alloc::Global;
 use std::fmt::Write;
 use tso_ops::OutOfMemory;

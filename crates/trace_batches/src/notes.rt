@@ -3,9 +3,10 @@ ghost use Rattle.std.specs.Prelude.{◌≡◌, IfOk, string_bytes};
 ghost use Rattle.trace_batches.specs.BatchLines.{kept_json, kept_line, kept_words, unread_json, unread_line};
 ghost use Rattle.trace_batches.specs.Batches.{last_format};
 
-use crate::batches::{BatchFormat, TextJudging};
+use crate::batches::TextJudging;
 use crate::lines::last_format;
 use crate::suites::unread_suite;
+use request_options::BatchFormat;
 use std::alloc::Global;
 use tso_ops::OutOfMemory;
 

@@ -5,8 +5,8 @@ ghost use Rattle.trace_batches.specs.Batches.{asked, has_bodies};
 ghost use Rattle.trace_batches.specs.Judgments.{body_of};
 ghost use Rattle.trace_explanation.specs.Explained.{explained};
 
-use crate::batches::{BatchFormat, BatchMethod, BatchPrinting};
 use decision_explanation::AsDecisionExplanation;
+use request_options::{BatchFormat, BatchMethod, BatchPrinting};
 use std::alloc::Global;
 use std::marker::Model;
 use trace_decisions::{Decision, DecisionRendering};

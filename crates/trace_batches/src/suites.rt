@@ -2,9 +2,9 @@
 ghost use Rattle.std.specs.Prelude.{◌≡◌, ◌++◌, IfOk, codes, option_map, string_bytes};
 ghost use Rattle.trace_batches.specs.BatchLines.{junit_error, junit_failure, junit_line, junit_skipped, junit_suite, junit_trace, suite_case, suite_start, total_suite, unread_suite};
 
-use crate::batches::BatchFormat;
 use crate::judgments::Judgment;
 use crate::names::escaped_text;
+use request_options::BatchFormat;
 use std::alloc::Global;
 use tso_ops::OutOfMemory;
 use tso_text::TextFault;

@@ -2,9 +2,9 @@
 ghost use Rattle.std.specs.Prelude.{◌≡◌, ◌++◌, IfOk, codes, string_bytes};
 ghost use Rattle.trace_batches.specs.BatchLines.{decided_json, decided_words, few_line, judged_json, judged_words, total_json, total_text, total_words};
 
-use crate::batches::{BatchFormat, BatchMethod};
 use crate::suites::total_suite;
 use crate::tallies::Tally;
+use request_options::{BatchFormat, BatchMethod};
 use std::alloc::Global;
 use tso_ops::OutOfMemory;
 

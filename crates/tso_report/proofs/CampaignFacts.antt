@@ -18,10 +18,10 @@ use Rattle.unit_core.specs.Replays.{Replays}
 use Rattle.std.specs.declared.alloc.AllocError.{AllocError}
 use Rattle.tso_ops.specs.declared.acts.Act.{Act}
 use Rattle.tso_report.specs.declared.campaigns.CampaignPlan.{CampaignPlan}
-use Rattle.tso_report.specs.declared.campaigns.CampaignPrinting.{CampaignPrinting}
-use Rattle.tso_report.specs.declared.campaigns.CampaignPrinting.TheVariants.{Lines, Traces}
-use Rattle.tso_report.specs.declared.campaigns.Execution.{Execution}
-use Rattle.tso_report.specs.declared.campaigns.Execution.TheVariants.{Threads, Replay}
+use Rattle.request_options.specs.declared.campaigns.CampaignPrinting.{CampaignPrinting}
+use Rattle.request_options.specs.declared.campaigns.CampaignPrinting.TheVariants.{Lines, Traces}
+use Rattle.request_options.specs.declared.campaigns.Execution.{Execution}
+use Rattle.request_options.specs.declared.campaigns.Execution.TheVariants.{Threads, Replay}
 use Rattle.trace_reports.specs.declared.verdicts.Verdict.{Verdict}
 use Rattle.trace_reports.specs.declared.verdicts.Verdict.TheVariants.{NoViolation, Violation, Refused}
 use Rattle.tso_report.specs.Campaigns.{AreResultsFrom, IsCampaign, IsRecordOfReplay, IsRecordOfSeed, IsResultOfSeed, SeedResult, campaign_program, campaign_text, is_lawful_under, program_of_seed_with_order, seed_line, seed_lines, total_line, verdict_of, violations_of}

@@ -20,10 +20,10 @@ use Rattle.unit_core.specs.Replays.{Replays}
 use Rattle.unit_core.specs.Units.{UnitValue}
 use Rattle.tso_report.specs.DrawnSchedules.{drawn_acts}
 use Rattle.tso_report.specs.declared.campaigns.CampaignPlan.{CampaignPlan}
-use Rattle.tso_report.specs.declared.campaigns.CampaignPrinting.{CampaignPrinting}
-use Rattle.tso_report.specs.declared.campaigns.CampaignPrinting.TheVariants.{Lines, Traces}
-use Rattle.tso_report.specs.declared.campaigns.Execution.{Execution}
-use Rattle.tso_report.specs.declared.campaigns.Execution.TheVariants.{Threads, Replay}
+use Rattle.request_options.specs.declared.campaigns.CampaignPrinting.{CampaignPrinting}
+use Rattle.request_options.specs.declared.campaigns.CampaignPrinting.TheVariants.{Lines, Traces}
+use Rattle.request_options.specs.declared.campaigns.Execution.{Execution}
+use Rattle.request_options.specs.declared.campaigns.Execution.TheVariants.{Threads, Replay}
 use Rattle.text_streams.specs.declared.faults.Fault.{Fault}
 use Rattle.text_streams.specs.declared.faults.Fault.TheVariants.{Read, Missing}
 use Rattle.trace_reports.specs.declared.verdicts.Verdict.{Verdict}

@@ -11,6 +11,7 @@ use drawn_programs::Shape;
 use gathering::Gathered;
 use lines::campaign_text;
 use progress_meters::{Meter, NoMeter};
+use request_options::{CampaignPrinting, Execution};
 use seeds::SeedUnits;
 use std::alloc::Global;
 use std::io::Write;
@@ -31,27 +32,6 @@ mod workers;
 
 /// The greatest number of seeds of a campaign.
 pub const MAX_SEEDS: usize = 1000;
-
-/// How the program of a seed is executed on its unit.
-#[derive(Clone, Copy, Debug, PartialEq, Eq)]
-pub enum Execution {
-    /// By a thread per processor, with drains by the seed. Two campaigns may record different traces.
-    Threads {
-        /// How many turns a drainer takes beside the processors: none with 0, and 1,000,000 at most.
-        drain_turns: u64,
-    },
-    /// By a replay of the schedule of the seed, on the thread of the worker.
-    Replay,
-}
-
-/// What is printed of a campaign.
-#[derive(Clone, Copy, Debug, PartialEq, Eq)]
-pub enum CampaignPrinting {
-    /// A line for each seed, and a last line with their numbers.
-    Lines,
-    /// The traces that were recorded, one after the other.
-    Traces,
-}
 
 /// What a campaign does: the programs of the seeds from `first` on, of one memory model and in one shape, are executed.
 #[derive(Clone, Copy, Debug)]

@@ -8,9 +8,7 @@
 pub use account_rendering::print_account;
 pub use campaigns::schedules::seeded_schedule;
 pub use campaigns::seeds::{seeded_program, seeded_program_with_order};
-pub use campaigns::{
-    CampaignPlan, CampaignPrinting, Execution, MAX_SEEDS, campaign, campaign_over,
-};
+pub use campaigns::{CampaignPlan, MAX_SEEDS, campaign, campaign_over};
 pub use record_judging::{judge_recorded, report_of_record};
 pub use text_streams::{Fault, read_all, write_text};
 pub use trace_judging::{

@@ -4,10 +4,10 @@ use Rattle.std.proofs.lemmas.List.{get_or-set_same, length-drop, length-take}
 use Rattle.circular_buffer.specs.Buffer.{last_item}
 use Rattle.store_buffers.specs.declared.entries.StoreEntry.{StoreEntry}
 use Rattle.store_buffers.specs.Buffers.{IsBuffers, entries_of}
-use Rattle.unit_faulty.specs.declared.kinds.FaultKind.{FaultKind}
-use Rattle.unit_faulty.specs.declared.kinds.FaultKind.TheVariants.{NewestFirst, NoForward, StaleLoad, TornSwap, IdleMembar, LostDrain}
-use Rattle.unit_faulty.specs.declared.kinds.Occasion.{Occasion}
-use Rattle.unit_faulty.specs.declared.kinds.Occasion.TheVariants.{DrainMade, SwapMade}
+use Rattle.request_options.specs.declared.faults.FaultKind.{FaultKind}
+use Rattle.request_options.specs.declared.faults.FaultKind.TheVariants.{NewestFirst, NoForward, StaleLoad, TornSwap, IdleMembar, LostDrain}
+use Rattle.unit_faulty.specs.declared.occasions.Occasion.{Occasion}
+use Rattle.unit_faulty.specs.declared.occasions.Occasion.TheVariants.{DrainMade, SwapMade}
 use Rattle.unit_faulty.specs.Faulty.{FaultyState, counted, deviates, drain_once, drain_times, drained_by, faulty_design, has_occasion, swap_drains, swapped, with_buffer, with_entered, with_entry_written, with_write}
 
 -- So many entries left the buffer of processor p.

@@ -7,10 +7,11 @@ use Rattle.store_buffers.specs.Buffers.{BuffersValue, entries_of, new_buffers, n
 use Rattle.unit_core.specs.declared.steps.Step.{Step}
 use Rattle.unit_core.specs.declared.steps.Step.TheVariants.{Drain}
 use Rattle.unit_core.specs.Units.{Design, UnitValue}
-use Rattle.unit_faulty.specs.declared.kinds.FaultKind.{FaultKind}
-use Rattle.unit_faulty.specs.declared.kinds.FaultKind.TheVariants.{NewestFirst, NoForward, StaleLoad, TornSwap, IdleMembar, LostDrain}
-use Rattle.unit_faulty.specs.declared.kinds.Occasion.{Occasion}
-use Rattle.unit_faulty.specs.declared.kinds.Occasion.TheVariants.{DrainMade, LoadForwarded, LoadFromMemory, SwapMade, MembarMade}
+use Rattle.request_options.specs.declared.faults.FaultKind.{FaultKind}
+use Rattle.request_options.specs.declared.faults.FaultKind.TheVariants.{NewestFirst, NoForward, StaleLoad, TornSwap, IdleMembar, LostDrain}
+use Rattle.request_options.specs.FaultNames.{fault_name}
+use Rattle.unit_faulty.specs.declared.occasions.Occasion.{Occasion}
+use Rattle.unit_faulty.specs.declared.occasions.Occasion.TheVariants.{DrainMade, LoadForwarded, LoadFromMemory, SwapMade, MembarMade}
 
 -- The unit's kind and trigger; how many occasions of the kind there were; memory and the store buffers; and what memory had at each address before its
 -- latest write, which is the first value until the second write.
@@ -154,15 +155,6 @@ pub record FaultyValue : Type 0 where
 -- one that has taken no step, with all first values 0
 abbrev pub new_faulty : FaultKind → ℕ → ℕ → FaultyValue
 new_faulty kind trigger capacity = record { steps = []; first = replicate 256 0; state = new_faulty_state kind trigger capacity }
-
--- the names of the kinds
-abbrev pub fault_name : FaultKind → List ℕ
-fault_name NewestFirst = codes "newest-first"
-fault_name NoForward = codes "no-forward"
-fault_name StaleLoad = codes "stale-load"
-fault_name TornSwap = codes "torn-swap"
-fault_name IdleMembar = codes "idle-membar"
-fault_name LostDrain = codes "lost-drain"
 
 -- the design of a faulty unit: its kind, with its trigger and its capacity
 abbrev pub faulty_design : FaultyState → Design

@@ -1,9 +1,9 @@
 //! Memory units with one deviation each. `README.md` says what is proved.
 #![tactic(auto)]
 
-pub use kinds::{FaultKind, Occasion};
+pub use occasions::{Occasion, has_occasion};
 pub use unit::FaultyUnit;
 
-mod kinds;
 mod memory;
+mod occasions;
 mod unit;

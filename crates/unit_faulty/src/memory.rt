@@ -2,7 +2,8 @@ ghost use Rattle.std.specs.Prelude.{◌≡◌, ◌<◌, ◌≤◌, ◌+◌, ◌^
 ghost use Rattle.store_buffers.specs.Buffers.{IsBuffers, entries_of};
 ghost use Rattle.unit_faulty.specs.Faulty.{after_load, after_preset, counted, deviates, drain_once, drain_times, load_answer, new_faulty_state, swapped, with_entered, with_entry_written, with_write, word_of};
 
-use crate::kinds::{FaultKind, Occasion};
+use crate::occasions::{Occasion, has_occasion};
+use request_options::FaultKind;
 use std::alloc::Global;
 use std::marker::Model;
 use store_buffers::{Buffers, StoreEntry};
@@ -61,7 +62,7 @@ impl FaultyMemory {
         ensures is { result ≡ deviates self.old occasion }
         ensures left { self.new ≡ counted self.old occasion }
     {
-        if !self.kind.has_occasion(occasion) {
+        if !has_occasion(self.kind, occasion) {
             return false;
         }
         self.occasions += 1;

@@ -4,8 +4,9 @@ ghost use Rattle.unit_core.specs.declared.steps.Step.TheVariants.{Store, Drain, 
 ghost use Rattle.unit_core.specs.Units.{AnswersDrain, Takes, new_unit};
 ghost use Rattle.unit_faulty.specs.Faulty.{after_load, after_membar, after_preset, after_store, after_swap, drain_once, faulty_design, faulty_unit, load_answer, membar_drains, new_faulty, new_faulty_state, store_drains, swap_answer, swap_drains, with_step};
 
-use crate::kinds::{FaultKind, Occasion};
 use crate::memory::FaultyMemory;
+use crate::occasions::Occasion;
+use request_options::FaultKind;
 use std::alloc::Global;
 use std::marker::Model;
 use tso_ops::{Order, OutOfMemory};

@@ -1,14 +1,17 @@
 //! Of the crates that answer a question about a text or a stream.
 
-use log_reports::{LogForm, LogOptions, report_log};
-use outcome_reports::{OutcomeForm, OutcomeOptions, count_seen, list_outcomes};
+use log_reports::report_log;
+use outcome_reports::{count_seen, list_outcomes};
 use progress_meters::NoMeter;
+use request_options::{
+    BatchFormat, BatchMethod, BatchPrinting, LogForm, LogOptions, OutcomeForm, OutcomeOptions,
+};
 use std::alloc::{AllocGlobal, Global};
 use std::io::{Read, Write};
 use std::sync::Wait;
 use std::thread::Threads;
 use text_streams::Fault;
-use trace_batches::{Batch, BatchFormat, BatchMethod, BatchOptions, BatchPrinting};
+use trace_batches::{Batch, BatchOptions};
 use trace_decisions::{AsDecision, DecisionLimits, decide_input};
 use trace_judging::judge;
 use trace_reduction::reduce_trace;

@@ -1,12 +1,13 @@
 //! Of the memory units, replays and runs.
 
 use issue_desk::{Issuers, OpenGate, RunFault, run};
+use request_options::FaultKind;
 use std::alloc::{AllocError, Global};
 use std::sync::Wait;
 use std::thread::Threads;
 use tso_ops::{Act, Program};
 use unit_core::{Account, MemoryUnit, Recorded, replay};
-use unit_faulty::{FaultKind, FaultyUnit};
+use unit_faulty::FaultyUnit;
 use unit_kinds::StoreBufferUnit;
 
 /// `unit_kinds` and `unit_core`: a replay on a unit with store buffers of eight entries.

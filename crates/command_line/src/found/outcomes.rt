@@ -3,13 +3,15 @@ ghost use Rattle.std.specs.Prelude.{◌≡◌, IfOk, codes, option_map};
 ghost use Rattle.clap.specs.Words.{first_of, found_of, rows_of};
 ghost use Rattle.command_line.specs.Commands.{asked_in};
 ghost use Rattle.command_line.specs.Requests.{asked_of};
-ghost use Rattle.command_line.specs.Subcommands.{file_of, is_true, number_or, outcomes, outcomes_asked};
+ghost use Rattle.command_line.specs.Options.{is_true, number_or, outcome_form_of};
+ghost use Rattle.command_line.specs.Subcommands.{file_of, outcomes, outcomes_asked};
 
 use super::{pair_of, refuse};
 use crate::help;
 use crate::requests::{OutcomesRequest, Request, SeenRequest};
 use crate::values::{file, is_used, named_file, number};
 use clap::ArgMatches;
+use request_options::{OutcomeForm, OutcomeOptions};
 use std::alloc::{AllocError, Global};
 
 /// Of `outcomes`: a refusal of final states of a stream, or where both texts would be standard input.
@@ -19,14 +21,27 @@ pub(crate) fn outcomes<'a>(
 ) -> Result<Request<'a>, AllocError>
     ensures { IfOk result (λ request. asked_of request ≡ asked_in outcomes (rows_of (found_of matches.now))) }
 {
-    let request = OutcomesRequest {
-        program: file(matches, "program"),
-        limit: number(matches, "limit", 1_000_000),
-        states: is_used(matches, "states"),
+    let program = file(matches, "program");
+    let limit = number(matches, "limit", 1_000_000);
+    let form = form_of(is_used(matches, "states"));
+    let outcomes = OutcomesRequest {
+        program,
+        options: OutcomeOptions { limit, form },
     };
     match matches.get_str("seen") {
-        Some(name) => seen(alloc, request, name),
-        None => Ok(Request::Outcomes(request)),
+        Some(name) => seen(alloc, outcomes, name),
+        None => Ok(Request::Outcomes(outcomes)),
+    }
+}
+
+/// In which form outcomes are listed, by whether final states are asked for.
+fn form_of(states: bool) -> OutcomeForm
+    ensures { result ≡ outcome_form_of states }
+{
+    if states {
+        OutcomeForm::States
+    } else {
+        OutcomeForm::Traces
     }
 }
 
@@ -36,15 +51,15 @@ fn seen<'a>(
     outcomes: OutcomesRequest<'a>,
     name: &'a str,
 ) -> Result<Request<'a>, AllocError>
-    ensures { IfOk result (λ request. asked_of request ≡ outcomes_asked outcomes.entry.states outcomes.entry.limit (option_map (λ file. file.now) outcomes.entry.program) (Some name.now)) }
+    ensures { IfOk result (λ request. asked_of request ≡ outcomes_asked outcomes.entry.options (option_map (λ file. file.now) outcomes.entry.program) (Some name.now)) }
 {
-    if outcomes.states {
+    if let OutcomeForm::States = outcomes.options.form {
         return refuse(alloc, help::STATES_SEEN);
     }
     match pair_of(outcomes.program, named_file(name)) {
         Some(texts) => Ok(Request::Seen(SeenRequest {
             texts,
-            limit: outcomes.limit,
+            limit: outcomes.options.limit,
         })),
         None => refuse(alloc, help::TWO_INPUTS),
     }

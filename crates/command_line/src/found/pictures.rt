@@ -4,7 +4,8 @@ ghost use Rattle.clap.specs.Words.{first_of, found_of, one_of, rows_of};
 ghost use Rattle.command_line.specs.Commands.{asked_in};
 ghost use Rattle.command_line.specs.Requests.{asked_of};
 ghost use Rattle.command_line.specs.Pictures.{chosen_picture, picture_of};
-ghost use Rattle.command_line.specs.Subcommands.{draw, is_true};
+ghost use Rattle.command_line.specs.Options.{is_true};
+ghost use Rattle.command_line.specs.Subcommands.{draw};
 
 use super::{present, refuse};
 use crate::help;

@@ -3,7 +3,8 @@ ghost use Rattle.std.specs.Prelude.{◌≡◌, IfOk, codes};
 ghost use Rattle.clap.specs.Words.{found_of, rows_of};
 ghost use Rattle.command_line.specs.Commands.{asked_in, given_in};
 ghost use Rattle.command_line.specs.Requests.{asked_of};
-ghost use Rattle.command_line.specs.Subcommands.{drain_turns_of, file_of, number_or, run, run_asked, times_of};
+ghost use Rattle.command_line.specs.Options.{drain_turns_of, number_or, times_of};
+ghost use Rattle.command_line.specs.Subcommands.{file_of, run, run_asked};
 
 use super::{refuse, run_options};
 use crate::help;

@@ -5,18 +5,18 @@ ghost use Rattle.std.specs.Io.KnownBytes.{Appends, Consumes};
 ghost use Rattle.std.specs.List.{list_all};
 ghost use Rattle.trace_batches.specs.Batches.{BatchText, HasJudged, HasWritten, IsBatchFault, Judges, LeavesBatch, LeavesText, WritesBatch, head_text};
 ghost use Rattle.text_streams.specs.Streams.{AppendsPrefix};
-ghost use Rattle.request_serving.specs.Batches.{AreTextsOfBatch, IsNamedText, are_several, asked_format, asked_method, asked_printing, told_name};
+ghost use Rattle.request_serving.specs.Batches.{AreTextsOfBatch, IsNamedText, are_several, told_name};
 ghost use Rattle.request_texts.specs.OpenedFiles.{OpensFirst, OpensNext, name_in};
 ghost use Rattle.request_serving.specs.Internal.Batching.{files_in, reads_one};
 
-use command_line::{BatchFormat as AskedFormat, BatchPrinting as AskedPrinting, BatchRequest};
+use command_line::BatchRequest;
 use request_texts::{Surroundings, open};
 use std::alloc::Global;
 use std::io::{Read, Write};
 use std::sync::Wait;
 use std::thread::Threads;
 use text_streams::Fault;
-use trace_batches::{Batch, BatchFormat, BatchMethod, BatchOptions, BatchPrinting};
+use trace_batches::{Batch, BatchOptions};
 use trace_reports::Answer;
 
 /// What stands for standard input in place of the name of a file.
@@ -49,8 +49,8 @@ pub(crate) fn batch_named<
 ) -> Result<Answer, Fault>
     requires workers { 1 ≤ request.now.workers }
     requires input { reads_one (files_in request.now.texts.items) }
-    ensures whole { let are_texts = AreTextsOfBatch (files_in request.now.texts.items) (R.remaining reader.old) (O.bytes files.old) in IfOk result (λ verdict. (texts : List BatchText) × are_texts texts × WritesBatch (asked_printing request.now.printing) texts (W.contents writer.old) (W.contents writer.new) (E.contents errors.old) (E.contents errors.new) verdict) }
-    ensures left { let are_texts = AreTextsOfBatch (files_in request.now.texts.items) (R.remaining reader.old) (O.bytes files.old) in OnErr result ((texts : List BatchText) × are_texts texts × LeavesBatch (asked_printing request.now.printing) texts (W.contents writer.old) (W.contents writer.new) (E.contents errors.old) (E.contents errors.new)) }
+    ensures whole { let are_texts = AreTextsOfBatch (files_in request.now.texts.items) (R.remaining reader.old) (O.bytes files.old) in IfOk result (λ verdict. (texts : List BatchText) × are_texts texts × WritesBatch request.now.printing texts (W.contents writer.old) (W.contents writer.new) (E.contents errors.old) (E.contents errors.new) verdict) }
+    ensures left { let are_texts = AreTextsOfBatch (files_in request.now.texts.items) (R.remaining reader.old) (O.bytes files.old) in OnErr result ((texts : List BatchText) × are_texts texts × LeavesBatch request.now.printing texts (W.contents writer.old) (W.contents writer.new) (E.contents errors.old) (E.contents errors.new)) }
     ensures fault { IfErr result IsBatchFault }
     ensures first { OpensFirst (O.opened files.old) (O.opened files.new) (filter_map (λ file. file) (files_in request.now.texts.items)) }
     ensures opened { IfOk result (λ _. OpensNext (O.opened files.old) (O.opened files.new) (filter_map (λ file. file) (files_in request.now.texts.items))) }
@@ -72,8 +72,8 @@ fn judge_each<H: Threads + Wait + Sync + AllocGlobal, O: Surroundings, R: Read, 
 ) -> Result<Batch, Fault>
     requires workers { 1 ≤ request.now.workers }
     requires input { reads_one (files_in request.now.texts.items) }
-    ensures judged { let are_texts = AreTextsOfBatch (files_in request.now.texts.items) (R.remaining reader.old) (O.bytes files.old) in IfOk result (λ batch. (texts : List BatchText) × are_texts texts × HasWritten batch (asked_printing request.now.printing) texts (W.contents writer.old) (W.contents writer.new) (E.contents errors.old) (E.contents errors.new)) }
-    ensures left { let are_texts = AreTextsOfBatch (files_in request.now.texts.items) (R.remaining reader.old) (O.bytes files.old) in OnErr result ((texts : List BatchText) × are_texts texts × LeavesBatch (asked_printing request.now.printing) texts (W.contents writer.old) (W.contents writer.new) (E.contents errors.old) (E.contents errors.new)) }
+    ensures judged { let are_texts = AreTextsOfBatch (files_in request.now.texts.items) (R.remaining reader.old) (O.bytes files.old) in IfOk result (λ batch. (texts : List BatchText) × are_texts texts × HasWritten batch request.now.printing texts (W.contents writer.old) (W.contents writer.new) (E.contents errors.old) (E.contents errors.new)) }
+    ensures left { let are_texts = AreTextsOfBatch (files_in request.now.texts.items) (R.remaining reader.old) (O.bytes files.old) in OnErr result ((texts : List BatchText) × are_texts texts × LeavesBatch request.now.printing texts (W.contents writer.old) (W.contents writer.new) (E.contents errors.old) (E.contents errors.new)) }
     ensures fault { IfErr result IsBatchFault }
     ensures first { OpensFirst (O.opened files.old) (O.opened files.new) (filter_map (λ file. file) (files_in request.now.texts.items)) }
     ensures opened { OnOk result (OpensNext (O.opened files.old) (O.opened files.new) (filter_map (λ file. file) (files_in request.now.texts.items))) }
@@ -97,14 +97,14 @@ fn begin<W: Write>(
     writer: &mut W,
 ) -> Result<Batch, Fault>
     requires { 1 ≤ request.now.workers }
-    ensures begun { IfOk result (λ batch. HasJudged batch (asked_printing request.now.printing) []) }
-    ensures whole { OnOk result (Appends (W.contents writer.old) (W.contents writer.new) (head_text (asked_printing request.now.printing))) }
-    ensures prefix { AppendsPrefix (W.contents writer.old) (W.contents writer.new) (head_text (asked_printing request.now.printing)) }
+    ensures begun { IfOk result (λ batch. HasJudged batch request.now.printing []) }
+    ensures whole { OnOk result (Appends (W.contents writer.old) (W.contents writer.new) (head_text request.now.printing)) }
+    ensures prefix { AppendsPrefix (W.contents writer.old) (W.contents writer.new) (head_text request.now.printing) }
     ensures fault { IfErr result IsBatchFault }
 {
     let options = BatchOptions {
         workers: request.workers,
-        printing: asked_printing(request.printing),
+        printing: request.printing,
     };
     Batch::begin(alloc, options, writer)
 }
@@ -165,39 +165,5 @@ impl NamedText<'_> {
                 Err(_) => batch.leave_out(self.name, writer, errors),
             },
         }
-    }
-}
-
-/// What is printed of a batch, as it was asked for.
-fn asked_printing(printing: AskedPrinting) -> BatchPrinting
-    ensures { result ≡ asked_printing printing }
-{
-    BatchPrinting {
-        method: asked_method(printing.effort),
-        format: asked_format(printing.format),
-        quiet: printing.quiet,
-        violations: printing.violations,
-        required: printing.required,
-    }
-}
-
-/// How it is found out what is said of a trace, as it was asked for.
-fn asked_method(effort: Option<u64>) -> BatchMethod
-    ensures { result ≡ asked_method effort }
-{
-    match effort {
-        None => BatchMethod::Judge,
-        Some(effort) => BatchMethod::Decide { effort },
-    }
-}
-
-/// How the lines of a batch are written, as it was asked for.
-fn asked_format(format: AskedFormat) -> BatchFormat
-    ensures { result ≡ asked_format format }
-{
-    match format {
-        AskedFormat::Words => BatchFormat::Words,
-        AskedFormat::Json => BatchFormat::Json,
-        AskedFormat::Junit => BatchFormat::Junit,
     }
 }

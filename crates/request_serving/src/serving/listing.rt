@@ -8,10 +8,9 @@ ghost use Rattle.trace_streams.specs.Limits.{trace_read_limit};
 ghost use Rattle.text_streams.specs.Streams.{LosesPrefix};
 ghost use Rattle.text_streams.specs.WrittenTexts.{LeavesAtFault, WritesWhole};
 ghost use Rattle.request_texts.specs.OpenedFiles.{OpensNext, files_named, name_in, text_bytes};
-ghost use Rattle.request_serving.specs.Outcomes.{asked_outcomes};
 
 use command_line::OutcomesRequest;
-use outcome_reports::{OutcomeForm, OutcomeOptions, list_outcomes};
+use outcome_reports::list_outcomes;
 use request_texts::{Surroundings, open};
 use std::alloc::Global;
 use std::io::{Read, Write};
@@ -26,33 +25,19 @@ pub(crate) fn list_named<O: Surroundings, R: Read, W: Write>(
     reader: &mut R,
     writer: &mut W,
 ) -> Result<Answer, Fault>
-    ensures whole { let programs = text_bytes (name_in request.now.program) (R.remaining reader.old) (O.bytes files.old) in IfOk result (WritesWhole (IsOutcomesOfReader (asked_outcomes request.now.limit request.now.states) programs) (W.contents writer.old) (W.contents writer.new)) }
-    ensures fault { let programs = text_bytes (name_in request.now.program) (R.remaining reader.old) (O.bytes files.old) in IfErr result (LeavesAtFault (IsOutcomesOfReader (asked_outcomes request.now.limit request.now.states) programs) (W.contents writer.old) (W.contents writer.new)) }
+    ensures whole { let programs = text_bytes (name_in request.now.program) (R.remaining reader.old) (O.bytes files.old) in IfOk result (WritesWhole (IsOutcomesOfReader request.now.options programs) (W.contents writer.old) (W.contents writer.new)) }
+    ensures fault { let programs = text_bytes (name_in request.now.program) (R.remaining reader.old) (O.bytes files.old) in IfErr result (LeavesAtFault (IsOutcomesOfReader request.now.options programs) (W.contents writer.old) (W.contents writer.new)) }
     ensures no_thread { IfErr result (λ fault. fault ≢ NoThread) }
     ensures opened { OpensNext (O.opened files.old) (O.opened files.new) (files_named (asked_of (Outcomes request.now))) }
     ensures unread { IfSome request.now.program (λ _. reader.new ≡ reader.old) }
     ensures taken { request.now.program ≡ None → IfOk result (λ _. LosesPrefix trace_read_limit (R.remaining reader.old) (R.remaining reader.new)) }
 {
-    let options = options_of(request);
+    let options = request.options;
     match request.program {
         None => list_outcomes(alloc, reader, writer, options),
         Some(name) => {
             let mut program = open(files, name)?;
             list_outcomes(alloc, &mut program, writer, options)
         }
-    }
-}
-
-/// How the outcomes are listed.
-fn options_of(request: &OutcomesRequest<'_>) -> OutcomeOptions
-    ensures { result ≡ asked_outcomes request.now.limit request.now.states }
-{
-    OutcomeOptions {
-        limit: request.limit,
-        form: if request.states {
-            OutcomeForm::States
-        } else {
-            OutcomeForm::Traces
-        },
     }
 }

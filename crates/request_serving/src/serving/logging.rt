@@ -4,13 +4,12 @@ ghost use Rattle.std.specs.Io.KnownBytes.{Consumes, Keeps};
 ghost use Rattle.log_reports.specs.LogReports.{IsLogReportOfReader};
 ghost use Rattle.text_streams.specs.Streams.{AppendsPrefix};
 ghost use Rattle.text_streams.specs.WrittenTexts.{LeavesAtFault, WritesWhole};
-ghost use Rattle.request_serving.specs.Logs.{form_of, options_of};
 ghost use Rattle.request_texts.specs.OpenedFiles.{OpensNext, files_named, name_in, text_bytes};
 ghost use Rattle.command_line.specs.Requests.{asked_of};
 ghost use Rattle.command_line.specs.declared.requests.Request.TheVariants.{Log};
 
-use command_line::{LogForm as AskedForm, LogOptions as AskedOptions, LogRequest};
-use log_reports::{LogForm, LogOptions, report_log};
+use command_line::LogRequest;
+use log_reports::report_log;
 use request_texts::{Surroundings, open};
 use std::io::{Read, Write};
 use std::sync::Wait;
@@ -33,45 +32,20 @@ pub(crate) fn log_named<
     writer: &mut W,
     errors: &mut E,
 ) -> Result<Answer, Fault>
-    ensures whole { let remaining = text_bytes (name_in request.now.file) (R.remaining reader.old) (O.bytes files.old) in IfOk result (WritesWhole (IsLogReportOfReader (options_of request.now.options) remaining) (W.contents writer.old) (W.contents writer.new)) }
-    ensures left { let remaining = text_bytes (name_in request.now.file) (R.remaining reader.old) (O.bytes files.old) in IfErr result (LeavesAtFault (IsLogReportOfReader (options_of request.now.options) remaining) (W.contents writer.old) (W.contents writer.new)) }
+    ensures whole { let remaining = text_bytes (name_in request.now.file) (R.remaining reader.old) (O.bytes files.old) in IfOk result (WritesWhole (IsLogReportOfReader request.now.options remaining) (W.contents writer.old) (W.contents writer.new)) }
+    ensures left { let remaining = text_bytes (name_in request.now.file) (R.remaining reader.old) (O.bytes files.old) in IfErr result (LeavesAtFault (IsLogReportOfReader request.now.options remaining) (W.contents writer.old) (W.contents writer.new)) }
     ensures told { IfOk result (λ _. (text : List ℕ) × AppendsPrefix (E.contents errors.old) (E.contents errors.new) text) }
     ensures untold { OnErr result (Keeps (E.contents errors.old) (E.contents errors.new)) }
     ensures opened { OpensNext (O.opened files.old) (O.opened files.new) (files_named (asked_of (Log request.now))) }
     ensures unread { IfSome request.now.file (λ _. reader.new ≡ reader.old) }
     ensures taken { request.now.file ≡ None → IfOk result (λ _. IfSome (R.remaining reader.old) (λ all. Consumes (R.remaining reader.old) (R.remaining reader.new) all)) }
 {
-    let options = options_of(request.options);
     let meter = files.meter("operations", None);
     match request.file {
-        None => report_log(rt, options, &meter, reader, writer, errors),
+        None => report_log(rt, request.options, &meter, reader, writer, errors),
         Some(name) => {
             let mut file = open(files, name)?;
-            report_log(rt, options, &meter, &mut file, writer, errors)
+            report_log(rt, request.options, &meter, &mut file, writer, errors)
         }
-    }
-}
-
-/// How a log is reported on, as it was asked for.
-fn options_of(options: AskedOptions) -> LogOptions
-    ensures { result ≡ options_of options }
-{
-    LogOptions {
-        most: options.most,
-        effort: options.effort,
-        max_unknown: options.max_unknown,
-        needs_end: options.needs_end,
-        form: form_of(options.form),
-    }
-}
-
-/// What is printed of a log, as it was asked for.
-fn form_of(form: AskedForm) -> LogForm
-    ensures { result ≡ form_of form }
-{
-    match form {
-        AskedForm::Lines => LogForm::Lines,
-        AskedForm::Explained => LogForm::Explained,
-        AskedForm::Traces => LogForm::Traces,
     }
 }

@@ -5,7 +5,8 @@
 
 use super::logs::REPORT as LOGGED;
 use super::{Input, MESSAGE_PASSING, MemoryFiles, Output};
-use command_line::{LogForm, LogOptions, LogRequest, Request};
+use command_line::{LogRequest, Request};
+use request_options::{LogForm, LogOptions};
 use request_serving::serve;
 use std::alloc::{AllocError, Global};
 use std::sync::Wait;

@@ -12,13 +12,14 @@ mod streams;
 mod unread;
 
 use progress_meters::NoMeter;
+use request_options::{BatchFormat, BatchMethod, BatchPrinting};
 use std::alloc::Global;
 use std::io::Write;
 use std::process::Abort;
 use std::sync::Wait;
 use std::thread::Threads;
 use text_streams::Fault;
-use trace_batches::{Batch, BatchFormat, BatchMethod, BatchOptions, BatchPrinting, judge_batch};
+use trace_batches::{Batch, BatchOptions, judge_batch};
 use trace_reports::Answer;
 use traces_for_tests::{Full, ShortWriter};
 

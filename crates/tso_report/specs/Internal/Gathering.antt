@@ -5,8 +5,8 @@ use Rattle.tso_ops.specs.declared.settings.Order.TheVariants.{Tso}
 use Rattle.tso_ops.specs.Values.{TraceValue}
 use Rattle.tso_text.specs.Printed.{trace_text}
 use Rattle.tso_report.specs.declared.campaigns.CampaignPlan.{CampaignPlan}
-use Rattle.tso_report.specs.declared.campaigns.CampaignPrinting.{CampaignPrinting}
-use Rattle.tso_report.specs.declared.campaigns.CampaignPrinting.TheVariants.{Lines, Traces}
+use Rattle.request_options.specs.declared.campaigns.CampaignPrinting.{CampaignPrinting}
+use Rattle.request_options.specs.declared.campaigns.CampaignPrinting.TheVariants.{Lines, Traces}
 use Rattle.issue_desk.specs.declared.faults.RunFault.{RunFault}
 use Rattle.issue_desk.specs.declared.faults.RunFault.TheVariants as run
 use Rattle.text_streams.specs.declared.faults.Fault.{Fault}

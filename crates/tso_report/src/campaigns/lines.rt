@@ -5,8 +5,8 @@ ghost use Rattle.tso_ops.specs.Values.{rows};
 ghost use Rattle.tso_report.specs.Campaigns.{seed_lines, total_line};
 ghost use Rattle.tso_report.specs.Internal.Gathering.{text_by};
 
-use super::CampaignPrinting;
 use super::gathering::Known;
+use request_options::CampaignPrinting;
 use std::alloc::Global;
 use std::fmt::Write;
 use trace_reports::verdict_line;

@@ -5,12 +5,13 @@ ghost use Rattle.issue_desk.specs.Running.{IsRunOf};
 ghost use Rattle.tso_report.specs.Campaigns.{IsRecordOfReplay, IsRecordOfSeed, program_of_seed, program_of_seed_with_order, schedule_of_seed};
 ghost use Rattle.tso_report.specs.Internal.Gathering.{IsKept, IsKnown, fault_of_seed};
 
+use super::CampaignPlan;
 use super::schedules::seeded_schedule;
-use super::{CampaignPlan, CampaignPrinting, Execution};
 use drawn_programs::{Shape, make_program_with_order};
 use issue_desk::{Issuers, OpenGate, RunFault, RunThreads, run_with_drainer_over};
 use rand_core::SeedableRng;
 use rand_pcg::Pcg64;
+use request_options::{CampaignPrinting, Execution};
 use std::alloc::Global;
 use std::marker::{Brand, Model, PhantomData};
 use std::sync::Wait;

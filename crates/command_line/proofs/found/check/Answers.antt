@@ -3,7 +3,7 @@ use Rattle.std.proofs.lemmas.Result.{IfOk-weaker}
 use Rattle.clap.specs.Words.{found_of, one_of, rows_of}
 use Rattle.std.specs.Prelude.{codes}
 use Rattle.command_line.specs.Requests.{files_of}
-use Rattle.command_line.specs.Subcommands.{number_of}
+use Rattle.command_line.specs.Options.{number_of}
 use Rattle.command_line.proofs.FoundLemmas.{check_asked}
 use Rattle.command_line.proofs.found.check.Goals as goal
 

@@ -1,7 +1,8 @@
 use Rattle.std.proofs.Common.{◌∙◌, codes, sym}
 use Rattle.clap.specs.Words.{first_of, found_of, one_of, rows_of}
 use Rattle.command_line.specs.Requests.{deciding, judging, worker_limit}
-use Rattle.command_line.specs.Subcommands.{file_of, is_true, number_of, number_or, within}
+use Rattle.command_line.specs.Options.{is_true, number_of, number_or, within}
+use Rattle.command_line.specs.Subcommands.{file_of}
 use Rattle.command_line.proofs.FoundLemmas.{asked_with_effort, asked_without_effort}
 use Rattle.command_line.proofs.found.present.Goals as goal
 

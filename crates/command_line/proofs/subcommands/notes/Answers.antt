@@ -1,6 +1,6 @@
 use Rattle.std.proofs.Common.{◌∙◌, None, Some}
 use Rattle.command_line.specs.Commands.{notes_in}
-use Rattle.command_line.specs.Subcommands.{no_notes}
+use Rattle.command_line.specs.Options.{no_notes}
 use Rattle.command_line.proofs.RequestLemmas.{first_named, none_named}
 use Rattle.command_line.proofs.subcommands.notes.Goals as goal
 

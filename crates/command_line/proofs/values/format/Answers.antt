@@ -3,7 +3,7 @@ use Rattle.clap.specs.Words.{found_of}
 use Rattle.clap.proofs.WalkLemmas.{first_value-rows}
 use Rattle.command_line.specs.Given.{value_named}
 use Rattle.command_line.specs.Names.{formats}
-use Rattle.command_line.specs.declared.options.BatchFormat.TheVariants.{Words}
+use Rattle.request_options.specs.declared.batches.BatchFormat.TheVariants.{Words}
 use Rattle.command_line.proofs.values.format.Goals as goal
 
 pub returns : goal.returns

@@ -4,7 +4,7 @@ use Rattle.std.proofs.lemmas.Result.{IfOk-weaker}
 use Rattle.tso_ops.specs.declared.ops.Outcome.{Outcome}
 use Rattle.outcome_reports.specs.Internal.Counting.{traces_by}
 use Rattle.outcome_reports.specs.Outcomes.{IsListing, traces_text}
-use Rattle.outcome_reports.specs.declared.options.OutcomeForm.{OutcomeForm}
+use Rattle.request_options.specs.declared.outcomes.OutcomeForm.{OutcomeForm}
 use Rattle.outcome_reports.proofs.listing.print_outcomes.Goals as goal
 
 pub returns-in_ok-traces-in-Traces : goal.returns-in_ok-traces-in-Traces

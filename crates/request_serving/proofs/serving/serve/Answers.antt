@@ -5,9 +5,8 @@ use Rattle.request_serving.specs.Endings.{IsPresented, Outputs, outputs}
 use Rattle.request_texts.specs.OpenedFiles.{name_in, text_bytes}
 use Rattle.run_serving.specs.Replaying.{IsReplayText}
 use Rattle.trace_reports.specs.Statuses.{status_of, status_of_answer}
-use Rattle.request_serving.specs.Batches.{AreTextsOfBatch, asked_printing}
+use Rattle.request_serving.specs.Batches.{AreTextsOfBatch}
 use Rattle.request_serving.specs.Internal.Batching.{files_in}
-use Rattle.request_serving.specs.Logs.{options_of}
 use Rattle.request_serving.proofs.BatchingFacts.{ends_batched, read_files, unread_files}
 use Rattle.log_reports.specs.LogReports.{IsLogReportOfReader}
 use Rattle.request_serving.proofs.LoggingFacts.{ends_noted}
@@ -17,7 +16,6 @@ use Rattle.request_texts.proofs.KnownFacts.{named, opens_all, unnamed}
 use Rattle.std.specs.Prelude.{◌≢◌}
 use Rattle.outcome_reports.specs.Outcomes.{IsOutcomesOfReader}
 use Rattle.text_streams.specs.declared.faults.Fault.TheVariants.{NoThread}
-use Rattle.request_serving.specs.Outcomes.{asked_outcomes}
 use Rattle.request_serving.proofs.RunEnds.{ends_run, ends_run_times}
 use Rattle.request_serving.proofs.LawfulFacts.{known_status, lawful_status}
 use Rattle.request_serving.proofs.serving.serve.Goals as goal
@@ -80,7 +78,7 @@ returns-in-Batch-clause-ends g c =
     let request = c.in-Batch.request in
     let are_texts = AreTextsOfBatch (files_in request.texts.items) (g.R.Read.remaining c.args.reader.now) (g.O.Surroundings.bytes c.args.files.now) in
     let judged = c.batch_named-judged.ensures in
-    rw c.in-Batch.is (ends_batched (asked_printing request.printing) are_texts (g.E.Write.contents c.batch_named-judged.new.errors) o c.batch_named-judged.result c.end_answer-in-Batch.result judged.whole judged.left judged.fault c.end_answer-in-Batch.ensures.answer c.end_answer-in-Batch.ensures.fault)
+    rw c.in-Batch.is (ends_batched request.printing are_texts (g.E.Write.contents c.batch_named-judged.new.errors) o c.batch_named-judged.result c.end_answer-in-Batch.result judged.whole judged.left judged.fault c.end_answer-in-Batch.ensures.answer c.end_answer-in-Batch.ensures.fault)
 
 pub returns-in-Batch-clause-first : goal.returns-in-Batch-clause-first
 returns-in-Batch-clause-first g c = rw c.in-Batch.is c.batch_named-judged.ensures.first
@@ -102,7 +100,7 @@ returns-in-Log-clause-ends g c =
     let request = c.in-Log.request in
     let remaining = text_bytes (name_in request.file) (g.R.Read.remaining c.args.reader.now) (g.O.Surroundings.bytes c.args.files.now) in
     let logged = c.log_named-reported.ensures in
-    rw c.in-Log.is (ends_noted (IsLogReportOfReader (options_of request.options) remaining) status_of_answer (g.E.Write.contents c.log_named-reported.new.errors) o c.log_named-reported.result c.end_answer-in-Log.result logged.whole logged.left logged.told logged.untold c.end_answer-in-Log.ensures.answer c.end_answer-in-Log.ensures.fault)
+    rw c.in-Log.is (ends_noted (IsLogReportOfReader request.options remaining) status_of_answer (g.E.Write.contents c.log_named-reported.new.errors) o c.log_named-reported.result c.end_answer-in-Log.result logged.whole logged.left logged.told logged.untold c.end_answer-in-Log.ensures.answer c.end_answer-in-Log.ensures.fault)
 
 pub returns-in-Log-clause-first : goal.returns-in-Log-clause-first
 returns-in-Log-clause-first g c = rw c.in-Log.is (opens_all _ _ _ c.log_named-reported.ensures.opened)
@@ -155,7 +153,7 @@ pub returns-in-Outcomes-clause-ends : goal.returns-in-Outcomes-clause-ends
 returns-in-Outcomes-clause-ends g c =
     let o : Outputs = outputs (g.W.Write.contents c.args.writer.now) (g.W.Write.contents c.list_named-listed.new.writer) (g.E.Write.contents c.args.errors.now) (g.E.Write.contents c.end_answer-in-Outcomes.new.errors) in
     let request = c.in-Outcomes.request in
-    let is_text = IsOutcomesOfReader (asked_outcomes request.limit request.states) (text_bytes (name_in request.program) (g.R.Read.remaining c.args.reader.now) (g.O.Surroundings.bytes c.args.files.now)) in
+    let is_text = IsOutcomesOfReader request.options (text_bytes (name_in request.program) (g.R.Read.remaining c.args.reader.now) (g.O.Surroundings.bytes c.args.files.now)) in
     let listed = c.list_named-listed in
     let ended = c.end_answer-in-Outcomes in
     rw c.in-Outcomes.is (ends_as is_text status_of_answer (λ old new fault. (fault ≢ NoThread) × LeavesAtFault is_text old new fault) o listed.result ended.result listed.ensures.whole

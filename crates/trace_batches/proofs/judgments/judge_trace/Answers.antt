@@ -1,5 +1,5 @@
 use Rattle.std.proofs.Common.{subst, sym}
-use Rattle.trace_batches.specs.declared.batches.BatchMethod.TheVariants.{Decide}
+use Rattle.request_options.specs.declared.batches.BatchMethod.TheVariants.{Decide}
 use Rattle.trace_batches.specs.Judgments.{asking, IsJudgmentOn}
 use Rattle.trace_batches.proofs.JudgmentFacts.{decision_said}
 use Rattle.trace_batches.proofs.judgments.judge_trace.Goals as goal

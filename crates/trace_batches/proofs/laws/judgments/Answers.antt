@@ -1,6 +1,6 @@
 use Rattle.trace_batches.proofs.JudgmentFacts.{one_judgment, refusal_said, some_judgment, verdict_said}
 use Rattle.trace_batches.specs.Judgments.{asking}
-use Rattle.trace_batches.specs.declared.batches.BatchMethod.TheVariants.{Judge}
+use Rattle.request_options.specs.declared.batches.BatchMethod.TheVariants.{Judge}
 use Rattle.trace_batches.proofs.laws.judgments.Goals as goal
 
 pub returns : goal.returns

@@ -1,7 +1,7 @@
 //! Batches of decided traces: where no case is looked at, and where enough are.
 
 use super::Case;
-use trace_batches::{BatchFormat, BatchMethod, BatchPrinting};
+use request_options::{BatchFormat, BatchMethod, BatchPrinting};
 use trace_reports::Answer;
 
 /// A consistent trace, one with an unwritten load, one without an order or a derived cycle, and a refused text.

@@ -1,6 +1,7 @@
 //! Programs with their outcomes by hand, and refused allocations.
 
-use outcome_reports::{OutcomeForm, OutcomeOptions, count_seen, list_outcomes};
+use outcome_reports::{count_seen, list_outcomes};
+use request_options::{OutcomeForm, OutcomeOptions};
 use std::alloc::Global;
 use std::process::Abort;
 use text_streams::Fault;

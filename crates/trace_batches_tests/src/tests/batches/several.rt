@@ -3,7 +3,7 @@
 use super::{
     Case, JSON, LINES, OTHER, QUIET, SIX, STREAM, THREE, TWO_VIOLATIONS, VIOLATIONS, WORDS,
 };
-use trace_batches::{BatchFormat, BatchMethod, BatchPrinting};
+use request_options::{BatchFormat, BatchMethod, BatchPrinting};
 use trace_reports::Answer;
 
 const QUIET_VIOLATIONS: BatchPrinting = BatchPrinting {

@@ -1,7 +1,7 @@
 //! Streams, how they are cut, and what is written of their pieces.
 
 use super::{Case, DOCUMENT, JSON, JUNIT, QUIET, STREAM, TEXT, WORDS};
-use trace_batches::{BatchFormat, BatchMethod, BatchPrinting};
+use request_options::{BatchFormat, BatchMethod, BatchPrinting};
 use trace_reports::Answer;
 
 const QUIET_JSON: BatchPrinting = BatchPrinting {

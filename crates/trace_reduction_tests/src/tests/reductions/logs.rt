@@ -4,8 +4,9 @@ mod notes;
 mod progress;
 mod reports;
 
-use log_reports::{LogForm, LogOptions, report_log};
+use log_reports::report_log;
 use progress_meters::NoMeter;
+use request_options::{LogForm, LogOptions};
 use std::io::{ErrorKind, Read};
 use std::process::Abort;
 use std::sync::Wait;

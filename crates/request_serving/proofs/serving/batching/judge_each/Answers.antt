@@ -5,7 +5,7 @@ use Rattle.std.specs.List.{list_all}
 use Rattle.std.specs.Prelude.{count_by, filter_map, is_none, is_some}
 use Rattle.trace_batches.specs.Batches.{HasWritten, LeavesBatch}
 use Rattle.trace_batches.proofs.WholeFacts.{whatever}
-use Rattle.request_serving.specs.Batches.{are_several, asked_printing}
+use Rattle.request_serving.specs.Batches.{are_several}
 use Rattle.request_serving.specs.Internal.Batching.{files_in}
 use Rattle.request_texts.specs.OpenedFiles.{OpensFirst, OpensNext}
 use Rattle.request_texts.proofs.KnownFacts.{opens_all, opens_none}
@@ -33,7 +33,7 @@ loop-i-preserved g c =
     let next = next_judged g.R.Read.remaining _ _ _ _ c.loop-i.batch _ _ _ _ _ _ c.args.reader.now c.loop-i.reader _ (files_in (take i texts)) refl c.loop-i.invariant
     (option_map (λ f. f.now) file) (files_in (drop (i + 1) texts)) few c.judge.new.batch _ _ _ c.judge.new.reader _ _ c.text_at-text.ensures.name c.in_ok-judge.ensures.judged c.judge.ensures.same
     c.judge.ensures.opened (of_file _ file c.judge.ensures.unread) (λ e. c.in_ok-judge.ensures.taken (no_file file e)) in
-    subst (λ fs. AreJudged g.R.Read.remaining c.are_several-several.result (g.R.Read.remaining c.args.reader.now) (g.O.Surroundings.bytes c.args.files.now) (asked_printing c.args.request.now.printing) c.judge.new.batch
+    subst (λ fs. AreJudged g.R.Read.remaining c.are_several-several.result (g.R.Read.remaining c.args.reader.now) (g.O.Surroundings.bytes c.args.files.now) c.args.request.now.printing c.judge.new.batch
     (g.W.Write.contents c.args.writer.now) (g.W.Write.contents c.judge.new.writer) (g.E.Write.contents c.args.errors.now) (g.E.Write.contents c.judge.new.errors) (g.O.Surroundings.opened c.args.files.now)
     (g.O.Surroundings.opened c.judge.new.files) c.args.reader.now c.judge.new.reader (g.O.Surroundings.bytes c.judge.new.files) fs) (sym (files_more texts i file inside at)) next
 
@@ -48,7 +48,7 @@ returns-in_err-judge-clause-left g c =
     let left = next_left g.R.Read.remaining _ _ _ _ c.loop-i.batch _ _ _ _ _ _ c.args.reader.now c.loop-i.reader _ (files_in (take i texts)) refl c.loop-i.invariant
     (option_map (λ f. f.now) file) (files_in (drop (i + 1) texts)) few _ _ _ c.text_at-text.ensures.name c.in_err-judge.ensures.left in
     whatever c.from_residual-in_err-judge.result (of_all _ (g.R.Read.remaining c.args.reader.now) (g.O.Surroundings.bytes c.args.files.now)
-    (λ ts. LeavesBatch (asked_printing c.args.request.now.printing) ts (g.W.Write.contents c.args.writer.now) (g.W.Write.contents c.judge.new.writer) (g.E.Write.contents c.args.errors.now) (g.E.Write.contents c.judge.new.errors))
+    (λ ts. LeavesBatch c.args.request.now.printing ts (g.W.Write.contents c.args.writer.now) (g.W.Write.contents c.judge.new.writer) (g.E.Write.contents c.args.errors.now) (g.E.Write.contents c.judge.new.errors))
     _ _ (subst (λ ts. c.are_several-several.result ≡ are_several (files_in ts)) c.as_slice-texts.ensures.value c.are_several-several.ensures) at left)
 
 pub returns-in_err-judge-clause-first : goal.returns-in_err-judge-clause-first
@@ -74,7 +74,7 @@ returns-in_err-judge-clause-unread g c = λ all.
 pub returns-clause-judged : goal.returns-clause-judged
 returns-clause-judged g c =
     of_all _ (g.R.Read.remaining c.args.reader.now) (g.O.Surroundings.bytes c.args.files.now)
-    (λ ts. HasWritten c.loop-i.batch (asked_printing c.args.request.now.printing) ts (g.W.Write.contents c.args.writer.now) (g.W.Write.contents c.loop-i.writer) (g.E.Write.contents c.args.errors.now) (g.E.Write.contents c.loop-i.errors))
+    (λ ts. HasWritten c.loop-i.batch c.args.request.now.printing ts (g.W.Write.contents c.args.writer.now) (g.W.Write.contents c.loop-i.writer) (g.E.Write.contents c.args.errors.now) (g.E.Write.contents c.loop-i.errors))
     _ _ (subst (λ ts. c.are_several-several.result ≡ are_several (files_in ts)) c.as_slice-texts.ensures.value c.are_several-several.ensures) (sym (ap files_in (take_all c.loop-i.i c.args.request.now.texts.items (subst (λ ts. length ts ≤ c.loop-i.i) c.as_slice-texts.ensures.value c.loop-i-test.false)))) c.loop-i.invariant.each
 
 pub returns-clause-first : goal.returns-clause-first

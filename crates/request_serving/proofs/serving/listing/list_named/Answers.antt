@@ -1,4 +1,3 @@
-use Rattle.request_serving.specs.Outcomes.{asked_outcomes}
 use Rattle.text_streams.proofs.StreamFacts.{faults_as, writes_as}
 use Rattle.request_serving.proofs.OutcomeFacts.{outcomes_of_known}
 use Rattle.request_serving.proofs.serving.listing.list_named.Goals as goal
@@ -6,13 +5,9 @@ use Rattle.request_serving.proofs.serving.listing.list_named.Goals as goal
 pub returns-in_ok-program-in-Some-clause-whole : goal.returns-in_ok-program-in-Some-clause-whole
 returns-in_ok-program-in-Some-clause-whole g c =
     let listed = c.list_outcomes-in-Some in
-    let options = asked_outcomes c.args.request.now.limit c.args.request.now.states in
-    let whole = rw c.options_of-options.ensures at listed.ensures.whole in
-    rw c.in-Some.is (writes_as _ _ (outcomes_of_known options _ _ c.in_ok-program-in-Some.ensures.known) _ _ listed.result whole)
+    rw c.in-Some.is (writes_as _ _ (outcomes_of_known c.args.request.now.options _ _ c.in_ok-program-in-Some.ensures.known) _ _ listed.result listed.ensures.whole)
 
 pub returns-in_ok-program-in-Some-clause-fault : goal.returns-in_ok-program-in-Some-clause-fault
 returns-in_ok-program-in-Some-clause-fault g c =
     let listed = c.list_outcomes-in-Some in
-    let options = asked_outcomes c.args.request.now.limit c.args.request.now.states in
-    let fault = rw c.options_of-options.ensures at listed.ensures.fault in
-    rw c.in-Some.is (faults_as _ _ (outcomes_of_known options _ _ c.in_ok-program-in-Some.ensures.known) _ _ listed.result fault)
+    rw c.in-Some.is (faults_as _ _ (outcomes_of_known c.args.request.now.options _ _ c.in_ok-program-in-Some.ensures.known) _ _ listed.result listed.ensures.fault)

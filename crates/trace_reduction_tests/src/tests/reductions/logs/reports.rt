@@ -1,7 +1,7 @@
 //! What is printed of logs, worked out by hand.
 
 use super::{Case, LINES, TRACES};
-use log_reports::{LogForm, LogOptions};
+use request_options::{LogForm, LogOptions};
 use trace_reports::Answer;
 
 const FIRST: LogOptions = LogOptions {

@@ -3,15 +3,15 @@
 use super::THREE_SEEDS;
 use super::running::{Campaign, Kind, Way, run_campaign};
 use drawn_programs::Shape;
+use request_options::{CampaignPrinting, Execution, FaultKind};
 use std::alloc::{AllocGlobal, Global};
 use std::process::Abort;
 use std::sync::Wait;
 use std::test::Fail;
 use std::thread::Threads;
 use tso_ops::Order;
-use tso_report::{CampaignPrinting, Execution, Fault, Verdict, seeded_program};
+use tso_report::{Fault, Verdict, seeded_program};
 use unit_core::{Account, replay_over};
-use unit_faulty::FaultKind;
 use unit_kinds::SerialUnit;
 
 const THREE_VIOLATIONS: &str =

@@ -3,6 +3,7 @@ ghost use Rattle.std.specs.Prelude.{◌≡◌, ◌≤◌, [], All, IfOk, length}
 
 use drawn_programs::Shape;
 use progress_meters::Meter;
+use request_options::{CampaignPrinting, Execution, FaultKind};
 use std::alloc::Global;
 use std::cell::Cell;
 use std::sync::{Arc, Wait};
@@ -10,11 +11,9 @@ use std::test::Fail;
 use std::thread::Threads;
 use traces_for_tests::{Full, ShortWriter};
 use tso_ops::{Order, OutOfMemory};
-use tso_report::{
-    CampaignPlan, CampaignPrinting, Execution, Fault, Verdict, campaign, campaign_over,
-};
+use tso_report::{CampaignPlan, Fault, Verdict, campaign, campaign_over};
 use unit_core::MemoryUnit;
-use unit_faulty::{FaultKind, FaultyUnit};
+use unit_faulty::FaultyUnit;
 use unit_kinds::{SerialUnit, StoreBufferUnit};
 use units_for_tests::{
     CallCounts, CountingUnit, InventingUnit, RefusingUnit, new_counts, numbers_of,
