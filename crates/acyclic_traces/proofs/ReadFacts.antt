@@ -11,7 +11,7 @@ use Rattle.tso_ops.specs.Events.{event_at, event_total, IsStore, IsEventOf, IsLo
 use Rattle.tso_ops.proofs.NumberFacts.{event_unique, HasSource-within}
 use Rattle.tso_ops.proofs.SwapFacts.{IsSwapLoad-within}
 use Rattle.tso_rules.proofs.BaseFacts.{word_bit, no_store}
-use Rattle.acyclic_traces.specs.Internal.Pairs.{HasPair, AreTransposed, IsClosedForReads, IsClosedForSwap}
+use Rattle.acyclic_traces.specs.Internal.Pairs.{HasPair, IsClosedForReads, IsClosedForSwap}
 use Rattle.acyclic_traces.proofs.PairFacts.{own_bit}
 
 -- the bits of the first of a mask's words
@@ -120,28 +120,26 @@ closed_if_swap t rows l few closed = record {
     on : IsSwapLoad t l → IsClosedForSwap t rows l
     on swap = let within : l < suc (event_total t) = (IsSwapLoad-within t l swap).0 in closed (omega (arith, within, few)) swap
 
--- what a load reads by the turned table, where its source isn't an own number before it
-pub read_given : (rows columns : List ℕ) (own s l : ℕ) → own < 2 ^ 64 → s < 64 → AreTransposed rows columns →
-    ((u : ℕ) → HasBit (bit_and (1 * 2 ^ s % 2 ^ 64) (bit_not w64 own)) u → HasPair columns l u) → HasBit own s ⊎ HasPair rows s l
-read_given rows columns own s l fits low turned has = elim (HasBit-decided own s) [
+-- what a load reads, where its source isn't an own number before it
+pub read_given : (rows : List ℕ) (own s l : ℕ) → own < 2 ^ 64 → s < 64 → ((u : ℕ) → HasBit (bit_and (1 * 2 ^ s % 2 ^ 64) (bit_not w64 own)) u → HasPair rows u l) → HasBit own s ⊎ HasPair rows s l
+read_given rows own s l fits low has = elim (HasBit-decided own s) [
   | inl mine ↦ inl mine
-  | inr not_mine ↦ inr ((turned s l).1 (has s ((HasBit-and (1 * 2 ^ s % 2 ^ 64) (bit_not w64 own) s).1 (own_bit s low, (HasBit-not own s fits low).1 not_mine))))
+  | inr not_mine ↦ inr (has s ((HasBit-and (1 * 2 ^ s % 2 ^ 64) (bit_not w64 own) s).1 (own_bit s low, (HasBit-not own s fits low).1 not_mine)))
 ]
 
 -- what it sees
-pub seen_given : (rows columns : List ℕ) (own others s l : ℕ) → AreTransposed rows columns → ((u : ℕ) → HasBit (bit_and (bit_or (get_or columns l 0) own) others) u → HasPair columns s u) →
+pub seen_given : (rows : List ℕ) (before own others s l : ℕ) → ((u : ℕ) → HasBit before u ↔ HasPair rows u l) → ((u : ℕ) → HasBit (bit_and (bit_or before own) others) u → HasPair rows u s) →
     (u : ℕ) → HasBit others u → HasBit own u ⊎ HasPair rows u l → HasPair rows u s
-seen_given rows columns own others s l turned has u other is =
-    (turned u s).1 (has u ((HasBit-and (bit_or (get_or columns l 0) own) others u).1 (
-      (HasBit-or (get_or columns l 0) own u).1 (elim is [
+seen_given rows before own others s l are has u other is =
+    has u ((HasBit-and (bit_or before own) others u).1 (
+      (HasBit-or before own u).1 (elim is [
         | inl mine ↦ inr mine
-        | inr before ↦ inl ((turned u l).0 before)
+        | inr pair ↦ inl ((are u).1 pair)
       ]),
       other,
-    )))
+    ))
 
 -- what comes before a swap's store
-pub before_given : (rows columns : List ℕ) (others store l : ℕ) → AreTransposed rows columns → ((u : ℕ) → HasBit (bit_and (get_or columns store 0) others) u → HasPair columns l u) →
+pub before_given : (rows : List ℕ) (before others store l : ℕ) → ((u : ℕ) → HasBit before u ↔ HasPair rows u store) → ((u : ℕ) → HasBit (bit_and before others) u → HasPair rows u l) →
     (u : ℕ) → HasBit others u → HasPair rows u store → HasPair rows u l
-before_given rows columns others store l turned has u other is =
-    (turned u l).1 (has u ((HasBit-and (get_or columns store 0) others u).1 ((turned u store).0 is, other)))
+before_given rows before others store l are has u other is = has u ((HasBit-and before others u).1 ((are u).1 is, other))

@@ -1,11 +1,106 @@
 //! Pairs of numbers below 64: for each number a word, in which the numbers that it has pairs with are bits.
-ghost use Rattle.std.specs.Prelude.{◌≡◌, ◌⊎◌, ◌↔◌, ◌<◌, ℕ, false, IsTrue, length};
+ghost use Rattle.std.specs.Prelude.{◌≡◌, ◌⊎◌, ◌↔◌, ◌<◌, ℕ, false, IsTrue, length, slice_index};
 ghost use Rattle.bitsets.specs.Rows.{HasBit};
 ghost use Rattle.acyclic_traces.specs.Internal.Rows.{IsCoveredRow};
 ghost use Rattle.acyclic_traces.specs.Internal.Pairs.{HasPair, HasAllPairs, AreTransposed, IsStrictOrder};
 
+use std::marker::Model;
+
 /// How many numbers a table has.
 pub(crate) const NUMBERS: usize = 64;
+
+/// Pairs, as a table and the same table turned around.
+#[derive(Drop)]
+pub(crate) struct Pairs {
+    rows: [u64; NUMBERS],
+    columns: [u64; NUMBERS],
+}
+
+impl Model for Pairs {
+    ghost use Rattle.std.specs.Prelude.{ℕ, List};
+    ghost use Rattle.acyclic_traces.specs.Internal.Pairs.{AreTransposed};
+
+    ghost Value = { List ℕ };
+
+    ghost view = { λ p. p.rows };
+
+    ghost invariant = { λ p. AreTransposed p.rows p.columns };
+}
+
+impl Pairs {
+    /// The pairs of a table.
+    pub(crate) fn new(rows: [u64; NUMBERS]) -> Pairs
+        ensures { result ≡ rows }
+    {
+        let mut columns = [0; NUMBERS];
+        transpose(&rows, &mut columns);
+        Pairs { rows, columns }
+    }
+
+    /// The table.
+    pub(crate) fn rows(&self) -> &[u64]
+        ensures value { result.now ≡ self.now }
+        ensures sized { length result.now ≡ 64 }
+    {
+        &self.rows
+    }
+
+    /// The numbers that this one has a pair with.
+    pub(crate) fn later(&self, u: usize) -> u64
+        requires { u < 64 }
+        ensures { result ≡ slice_index self.now u }
+    {
+        self.rows[u]
+    }
+
+    /// The numbers that have a pair with this one.
+    pub(crate) fn earlier(&self, v: usize) -> u64
+        requires { v < 64 }
+        ensures { (u : ℕ) → HasBit result u ↔ HasPair self.now u v }
+    {
+        self.columns[v]
+    }
+
+    /// Gives each number of `to` a pair from each of `from`, and what follows from these pairs and those that are there. Whether there
+    /// were numbers in both; else nothing is changed.
+    fn join(&mut self, from: u64, to: u64) -> bool
+        ensures same { result ≡ false → self.new ≡ self.old }
+        ensures none { result ≡ false → (from ≡ 0) ⊎ (to ≡ 0) }
+    {
+        if from == 0 {
+            return false;
+        }
+        if to == 0 {
+            return false;
+        }
+        let before = from | joined_rows(&self.columns, from);
+        let after = to | joined_rows(&self.rows, to);
+        add_product(&mut self.rows, before, after);
+        add_product(&mut self.columns, after, before);
+        true
+    }
+
+    /// Adds the pairs of `to` with each of these numbers, and what follows from them. Whether there was a new one; else nothing is changed.
+    pub(crate) fn add_before(&mut self, numbers: u64, to: usize) -> bool
+        requires { to < 64 }
+        ensures same { result ≡ false → self.new ≡ self.old }
+        ensures has { result ≡ false → (u : ℕ) → HasBit numbers u → HasPair self.old u to }
+    {
+        let missing = numbers & !self.earlier(to);
+        self.join(missing, 1 << to)
+    }
+
+    /// Adds the pairs of `from` with each of these numbers, and what follows from them. Whether there was a new one; else nothing is
+    /// changed.
+    pub(crate) fn add_after(&mut self, from: usize, numbers: u64) -> bool
+        requires { from < 64 }
+        ensures same { result ≡ false → self.new ≡ self.old }
+        ensures has { result ≡ false → (v : ℕ) → HasBit numbers v → HasPair self.old from v }
+    {
+        let missing = numbers & !self.later(from);
+        self.join(1 << from, missing)
+    }
+}
 
 /// Whether the table has the pair.
 #[inline]
@@ -15,64 +110,6 @@ pub(crate) fn has_pair(rows: &[u64], u: usize, v: usize) -> bool
     ensures { IsTrue result ↔ HasPair rows.now u v }
 {
     (rows[u] >> v) & 1 == 1
-}
-
-/// Gives each number of `to` a pair from each of `from`, and what follows from these pairs and those that are there. Whether there
-/// were numbers in both; else nothing is changed.
-pub(crate) fn join(rows: &mut [u64], columns: &mut [u64], from: u64, to: u64) -> bool
-    requires rows { length rows.old ≡ 64 }
-    requires columns { length columns.old ≡ 64 }
-    ensures rows { length rows.new ≡ 64 }
-    ensures columns { length columns.new ≡ 64 }
-    ensures transposed { AreTransposed rows.old columns.old → AreTransposed rows.new columns.new }
-    ensures same_rows { result ≡ false → rows.new ≡ rows.old }
-    ensures same_columns { result ≡ false → columns.new ≡ columns.old }
-    ensures none { result ≡ false → (from ≡ 0) ⊎ (to ≡ 0) }
-{
-    if from == 0 {
-        return false;
-    }
-    if to == 0 {
-        return false;
-    }
-    let before = from | joined_rows(columns, from);
-    let after = to | joined_rows(rows, to);
-    add_product(rows, before, after);
-    add_product(columns, after, before);
-    true
-}
-
-/// Adds the pairs of `to` with each of these numbers, and what follows from them. Whether there was a new one; else nothing is changed.
-pub(crate) fn add_before(rows: &mut [u64], columns: &mut [u64], numbers: u64, to: usize) -> bool
-    requires rows { length rows.old ≡ 64 }
-    requires columns { length columns.old ≡ 64 }
-    requires to { to < 64 }
-    ensures rows { length rows.new ≡ 64 }
-    ensures columns { length columns.new ≡ 64 }
-    ensures transposed { AreTransposed rows.old columns.old → AreTransposed rows.new columns.new }
-    ensures same_rows { result ≡ false → rows.new ≡ rows.old }
-    ensures same_columns { result ≡ false → columns.new ≡ columns.old }
-    ensures has { result ≡ false → (u : ℕ) → HasBit numbers u → HasPair columns.old to u }
-{
-    let missing = numbers & !columns[to];
-    join(rows, columns, missing, 1 << to)
-}
-
-/// Adds the pairs of `from` with each of these numbers, and what follows from them. Whether there was a new one; else nothing is
-/// changed.
-pub(crate) fn add_after(rows: &mut [u64], columns: &mut [u64], from: usize, numbers: u64) -> bool
-    requires rows { length rows.old ≡ 64 }
-    requires columns { length columns.old ≡ 64 }
-    requires from { from < 64 }
-    ensures rows { length rows.new ≡ 64 }
-    ensures columns { length columns.new ≡ 64 }
-    ensures transposed { AreTransposed rows.old columns.old → AreTransposed rows.new columns.new }
-    ensures same_rows { result ≡ false → rows.new ≡ rows.old }
-    ensures same_columns { result ≡ false → columns.new ≡ columns.old }
-    ensures has { result ≡ false → (v : ℕ) → HasBit numbers v → HasPair rows.old from v }
-{
-    let missing = numbers & !rows[from];
-    join(rows, columns, 1 << from, missing)
 }
 
 /// Gives each number of `from` the pairs with those of `to`.
@@ -101,7 +138,7 @@ fn clear(rows: &mut [u64])
 }
 
 /// Makes a table of the pairs of the other, turned around.
-pub(crate) fn transpose(rows: &[u64], columns: &mut [u64])
+fn transpose(rows: &[u64], columns: &mut [u64])
     requires rows { length rows.now ≡ 64 }
     requires columns { length columns.old ≡ 64 }
     ensures columns { length columns.new ≡ 64 }

@@ -1,11 +1,11 @@
 //! Whether a short trace is shown to have no derived cycle.
-ghost use Rattle.std.specs.Prelude.{◌≡◌, ◌≤◌, ℕ, suc, false, IsTrue, length};
+ghost use Rattle.std.specs.Prelude.{◌≡◌, ◌≤◌, ℕ, suc, false, IsTrue};
 ghost use Rattle.tso_ops.specs.Events.{event_total};
 ghost use Rattle.tso_model.specs.Rules.{HasDerivedCycle};
-ghost use Rattle.acyclic_traces.specs.Internal.Pairs.{AreTransposed, IsClosedForReads, IsClosedForSwap};
+ghost use Rattle.acyclic_traces.specs.Internal.Pairs.{IsClosedForReads, IsClosedForSwap};
 
 use crate::loads::add_by_load;
-use crate::pairs::{NUMBERS, has_all, is_strict_order, transpose};
+use crate::pairs::{NUMBERS, Pairs, has_all, is_strict_order};
 use crate::program_order::put_order;
 use crate::swaps::add_by_swaps;
 use tso_ops::Trace;
@@ -28,12 +28,10 @@ pub fn is_shown_acyclic(trace: &Trace) -> bool
     }
     let mut order = [0; NUMBERS];
     put_order(trace, &mut order);
-    let mut rows = order;
-    let mut columns = [0; NUMBERS];
-    transpose(&rows, &mut columns);
+    let mut pairs = Pairs::new(order);
     for _ in 0..MAX_PASSES {
-        if !add_by_events(trace, &mut rows, &mut columns) {
-            return has_all(&rows, &order) && is_strict_order(&rows);
+        if !add_by_events(trace, &mut pairs) {
+            return has_all(pairs.rows(), &order) && is_strict_order(pairs.rows());
         }
     }
     false
@@ -41,21 +39,16 @@ pub fn is_shown_acyclic(trace: &Trace) -> bool
 
 /// Adds the pairs that each event gives by what it reads or swaps, and some that follow from them. Whether there was a new one; else
 /// nothing is changed.
-fn add_by_events(trace: &Trace, rows: &mut [u64], columns: &mut [u64]) -> bool
-    requires rows { length rows.old ≡ 64 }
-    requires columns { length columns.old ≡ 64 }
-    requires few { suc (event_total trace.now) ≤ 64 }
-    ensures rows { length rows.new ≡ 64 }
-    ensures columns { length columns.new ≡ 64 }
-    ensures transposed { AreTransposed rows.old columns.old → AreTransposed rows.new columns.new }
-    ensures same { result ≡ false → rows.new ≡ rows.old }
-    ensures reads { result ≡ false → AreTransposed rows.old columns.old → (l : ℕ) → IsClosedForReads trace.now rows.old l }
-    ensures swaps { result ≡ false → AreTransposed rows.old columns.old → (l : ℕ) → IsClosedForSwap trace.now rows.old l }
+fn add_by_events(trace: &Trace, pairs: &mut Pairs) -> bool
+    requires { suc (event_total trace.now) ≤ 64 }
+    ensures same { result ≡ false → pairs.new ≡ pairs.old }
+    ensures reads { result ≡ false → (l : ℕ) → IsClosedForReads trace.now pairs.old l }
+    ensures swaps { result ≡ false → (l : ℕ) → IsClosedForSwap trace.now pairs.old l }
 {
     let mut added = false;
     for l in 0..trace.node_count() {
-        added |= add_by_load(trace, rows, columns, l);
+        added |= add_by_load(trace, pairs, l);
     }
-    let by_swaps = add_by_swaps(trace, rows, columns);
+    let by_swaps = add_by_swaps(trace, pairs);
     added | by_swaps
 }

@@ -3,8 +3,8 @@ use Rattle.std.specs.Prelude.{◌≡◌, ℕ, ◌<◌, ◌≤◌, length, slice_
 use Rattle.chain_reach.specs.declared.types.Groups.{Groups}
 
 -- how many numbers there are: each is below it
-abbrev pub nodes_of : Groups → ℕ
-nodes_of g = length g.keys.items
+abbrev pub node_count : Groups → ℕ
+node_count g = length g.keys.items
 
 -- how many groups there are
 abbrev pub count_of : Groups → ℕ
@@ -16,11 +16,11 @@ group_of g n = slice_index g.keys.items n
 
 -- number n is in group d
 abbrev pub IsIn : Groups → ℕ → ℕ → Type 0
-IsIn g d n = (n < nodes_of g) × (group_of g n ≡ d)
+IsIn g d n = (n < node_count g) × (group_of g n ≡ d)
 
 -- two numbers of one group, of which the first is less
 abbrev pub IsLaterIn : Groups → ℕ → ℕ → Type 0
-IsLaterIn g x y = (x < y) × (y < nodes_of g) × (group_of g x ≡ group_of g y)
+IsLaterIn g x y = (x < y) × (y < node_count g) × (group_of g x ≡ group_of g y)
 
 -- v is the least number of group d from n on
 pub record IsFirstFrom (g : Groups) (d n v : ℕ) : Type 0 where

@@ -14,8 +14,8 @@ abbrev pub IsOrLeads : Reach → ℕ → ℕ → Type 0
 IsOrLeads r x y = (x ≡ y) ⊎ Leads r x y
 
 -- x has come to lead to more numbers since this was made or last settled
-unfoldable pub HasGrown : Reach → ℕ → Type 0
-HasGrown r x = HasNumber r.grown.items x
+unfoldable pub LeadsToMore : Reach → ℕ → Type 0
+LeadsToMore r x = HasNumber r.grown.items x
 
 -- Which numbers lead to which, once u leads to v: besides those that did, each that is or leads to u leads to v and to what v leads to.
 pub record Joins (old new : Reach) (u v : ℕ) : Type 0 where
@@ -23,6 +23,6 @@ pub record Joins (old new : Reach) (u v : ℕ) : Type 0 where
   pub leads : (x y : ℕ) → Leads new x y → Leads old x y ⊎ (IsOrLeads old x u × IsOrLeads old v y)
   pub kept : (x y : ℕ) → Leads old x y → Leads new x y
   pub joined : (x y : ℕ) → IsOrLeads old x u → IsOrLeads old v y → Leads new x y
-  pub grown : (x : ℕ) → HasGrown new x → HasGrown old x ⊎ (IsOrLeads old x u × (Leads old x v → ⊥))
-  pub still_grown : (x : ℕ) → HasGrown old x → HasGrown new x
-  pub grows : (x : ℕ) → IsOrLeads old x u → (Leads old x v → ⊥) → HasGrown new x
+  pub grown : (x : ℕ) → LeadsToMore new x → LeadsToMore old x ⊎ (IsOrLeads old x u × (Leads old x v → ⊥))
+  pub still_grown : (x : ℕ) → LeadsToMore old x → LeadsToMore new x
+  pub grows : (x : ℕ) → IsOrLeads old x u → (Leads old x v → ⊥) → LeadsToMore new x

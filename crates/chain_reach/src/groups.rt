@@ -1,6 +1,6 @@
 //! Numbers in groups.
 ghost use Rattle.std.specs.Prelude.{◌≡◌, ◌<◌, ◌≤◌, ◌^◌, ℕ, [], ◌∷◌, length, map, slice_index, All, IfOk, MatchOption};
-ghost use Rattle.chain_reach.specs.Groups.{nodes_of, count_of, group_of, IsIn, IsFirstFrom, IsLastBefore};
+ghost use Rattle.chain_reach.specs.Groups.{node_count, count_of, group_of, IsIn, IsFirstFrom, IsLastBefore};
 ghost use Rattle.chain_reach.specs.Internal.Lists.{IsCut};
 ghost use Rattle.bitsets.specs.Rows.{IsListOf, IsAscending};
 
@@ -13,7 +13,7 @@ impl Groups {
     pub fn of_keys(alloc: Global, keys: Vec<u16>, count: usize) -> Result<Groups, AllocError>
         requires most { length keys.items < 2 ^ 16 }
         requires within { All (λ key. key < count) keys.items }
-        ensures nodes { IfOk result (λ g. nodes_of g ≡ length keys.items) }
+        ensures nodes { IfOk result (λ g. node_count g ≡ length keys.items) }
         ensures keys { IfOk result (λ g. (n : ℕ) → n < length keys.items → group_of g n ≡ slice_index keys.items n) }
         ensures count { IfOk result (λ g. count_of g ≡ count) }
     {
@@ -27,7 +27,7 @@ impl Groups {
     /// How many numbers there are: each is below it.
     #[inline]
     pub fn nodes(&self) -> usize
-        ensures nodes { result ≡ nodes_of self.now }
+        ensures nodes { result ≡ node_count self.now }
         ensures small { result < 2 ^ 16 }
     {
         self.keys.len()
@@ -44,7 +44,7 @@ impl Groups {
     /// The group of number `n`, which is below `nodes`.
     #[inline]
     pub fn group(&self, n: usize) -> usize
-        requires { n < nodes_of self.now }
+        requires { n < node_count self.now }
         ensures group { result ≡ group_of self.now n }
         ensures within { result < count_of self.now }
     {

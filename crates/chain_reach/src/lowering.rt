@@ -1,6 +1,6 @@
 //! Rows of first numbers that are lowered, since an edge was added.
 ghost use Rattle.std.specs.Prelude.{◌≡◌, ◌⊎◌, ◌<◌, ◌≤◌, ◌+◌, ◌*◌, ◌^◌, ℕ, length, slice_index};
-ghost use Rattle.chain_reach.specs.Groups.{nodes_of, count_of, group_of};
+ghost use Rattle.chain_reach.specs.Groups.{node_count, count_of, group_of};
 ghost use Rattle.chain_reach.specs.Internal.FirstTables.{Reaches, GrowsBy, GrowsIn, KeepsReach, IsEdge, IsReadyChain, IsGiven, LowersRows, MarksRows};
 ghost use Rattle.chain_reach.specs.Internal.Lists.{IsCut};
 

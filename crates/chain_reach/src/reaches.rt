@@ -1,7 +1,7 @@
 //! Which numbers lead to which.
 ghost use Rattle.std.specs.Prelude.{◌≡◌, ◌↔◌, ◌⊎◌, ◌<◌, ◌≤◌, ℕ, IsTrue, IfOk, MatchBool, length};
-ghost use Rattle.chain_reach.specs.Groups.{nodes_of, count_of, group_of, IsLaterIn};
-ghost use Rattle.chain_reach.specs.Leading.{Leads, HasGrown, Joins};
+ghost use Rattle.chain_reach.specs.Groups.{node_count, count_of, group_of, IsLaterIn};
+ghost use Rattle.chain_reach.specs.Leading.{Leads, LeadsToMore, Joins};
 ghost use Rattle.bitsets.specs.Rows.{IsListOf};
 
 use crate::lowering::{NewEdge, give_row, lower_chains};
@@ -15,7 +15,7 @@ impl Reach {
     pub fn new(alloc: Global, chains: Groups) -> Result<Reach, AllocError>
         ensures chains { IfOk result (λ r. r.chains ≡ chains) }
         ensures leads { IfOk result (λ r. (x y : ℕ) → Leads r x y ↔ IsLaterIn chains x y) }
-        ensures settled { IfOk result (λ r. (x : ℕ) → HasGrown r x → ⊥) }
+        ensures settled { IfOk result (λ r. (x : ℕ) → LeadsToMore r x → ⊥) }
     {
         let nodes = chains.nodes();
         let count = chains.count();
@@ -49,8 +49,8 @@ impl Reach {
     /// Whether x leads to y: both are numbers of the chains.
     #[inline]
     pub fn leads(&self, x: usize, y: usize) -> bool
-        requires from { x < nodes_of self.now.chains }
-        requires to { y < nodes_of self.now.chains }
+        requires from { x < node_count self.now.chains }
+        requires to { y < node_count self.now.chains }
         ensures { IsTrue result ↔ Leads self.now x y }
     {
         self.first_led(x, self.chains.group(y)) <= y
@@ -71,9 +71,9 @@ impl Reach {
     /// A number such that x, a number of the chains, leads to those of chain `d` that aren't less, and to no others of it.
     #[inline]
     pub fn first_led(&self, x: usize, d: usize) -> usize
-        requires from { x < nodes_of self.now.chains }
+        requires from { x < node_count self.now.chains }
         requires chain { d < count_of self.now.chains }
-        ensures { (y : ℕ) → y < nodes_of self.now.chains → group_of self.now.chains y ≡ d → Leads self.now x y ↔ (result ≤ y) }
+        ensures { (y : ℕ) → y < node_count self.now.chains → group_of self.now.chains y ≡ d → Leads self.now x y ↔ (result ≤ y) }
     {
         self.first[x * self.chains.count() + d] as usize
     }
@@ -81,8 +81,8 @@ impl Reach {
     /// Lets u lead to v, and so each number that is or leads to u to v and to what v leads to. Both are numbers of the
     /// chains.
     pub fn join(&mut self, u: usize, v: usize)
-        requires from { u < nodes_of self.old.chains }
-        requires to { v < nodes_of self.old.chains }
+        requires from { u < node_count self.old.chains }
+        requires to { v < node_count self.old.chains }
         ensures { Joins self.old self.new u v }
     {
         if self.leads(u, v) {
@@ -109,7 +109,7 @@ impl Reach {
     /// The numbers that have come to lead to more since this was made or last settled, ascending. OutOfMemory where an
     /// allocation was refused.
     pub fn grown(&self, alloc: Global) -> Result<Vec<usize>, AllocError>
-        ensures { IfOk result (λ list. IsListOf list.items (HasGrown self.now)) }
+        ensures { IfOk result (λ list. IsListOf list.items (LeadsToMore self.now)) }
     {
         marked(alloc, &self.grown, self.chains.nodes())
     }
@@ -118,7 +118,7 @@ impl Reach {
     pub fn settle(&mut self)
         ensures chains { self.new.chains ≡ self.old.chains }
         ensures leads { (x y : ℕ) → Leads self.new x y ↔ Leads self.old x y }
-        ensures settled { (x : ℕ) → HasGrown self.new x → ⊥ }
+        ensures settled { (x : ℕ) → LeadsToMore self.new x → ⊥ }
     {
         self.grown.fill(0);
     }

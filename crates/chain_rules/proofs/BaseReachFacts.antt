@@ -15,7 +15,7 @@ use Rattle.tso_rules.specs.Internal.MarkedRows.{IsReadBy}
 use Rattle.tso_rules.proofs.BaseFacts.{base_by}
 use Rattle.chain_reach.specs.declared.types.Groups.{Groups}
 use Rattle.chain_reach.specs.declared.types.Reach.{Reach}
-use Rattle.chain_reach.specs.Groups.{nodes_of, count_of, group_of, IsIn, IsLastBefore, IsLaterIn}
+use Rattle.chain_reach.specs.Groups.{node_count, count_of, group_of, IsIn, IsLastBefore, IsLaterIn}
 use Rattle.chain_reach.specs.Leading.{Leads, Joins}
 use Rattle.chain_rules.specs.Chains.{AreChainsOf}
 use Rattle.chain_rules.specs.Rows.{IsRankReach}
@@ -81,7 +81,7 @@ pub record LeadsLater (t : TraceValue) (old new : Reach) (u d : ℕ) : Type 0 wh
   pub led : (v : ℕ) → group_of old.chains v < d → IsAfter t u v → Leads new u v
 
 -- nothing more comes after it in the next chain
-pub later_none : (t : TraceValue) (old new : Reach) (u d : ℕ) → LeadsLater t old new u d → ((v : ℕ) → IsIn old.chains d v → IsAfter t u v → ⊥) → ((v : ℕ) → IsAfter t u v → v < nodes_of old.chains) →
+pub later_none : (t : TraceValue) (old new : Reach) (u d : ℕ) → LeadsLater t old new u d → ((v : ℕ) → IsIn old.chains d v → IsAfter t u v → ⊥) → ((v : ℕ) → IsAfter t u v → v < node_count old.chains) →
     LeadsLater t old new u (d + 1)
 later_none t old new u d before none within = record {
   grows = before.grows;

@@ -13,7 +13,7 @@ use Rattle.tso_ops.proofs.NumberFacts.{event_unique, IsLoad-within, IsStore-with
 use Rattle.tso_cert.specs.declared.rules.BaseRule.TheVariants.{Init, LoadOp, StoreStore}
 use Rattle.tso_model.specs.Ranks.{RankSet}
 use Rattle.chain_reach.specs.declared.types.Groups.{Groups}
-use Rattle.chain_reach.specs.Groups.{nodes_of, count_of, group_of, IsLaterIn}
+use Rattle.chain_reach.specs.Groups.{node_count, count_of, group_of, IsLaterIn}
 use Rattle.chain_rules.specs.Chains.{address_total, chain_width, AreTogether, AreChainsOf}
 use Rattle.chain_rules.specs.declared.chains.Layout.{Layout}
 use Rattle.chain_rules.specs.Internal.Layouts.{is_by_address, layout_of, layout_count, place_in, chain_in, chain_at, IsSmall, IsPlaced, AreChainKeys}
@@ -95,10 +95,10 @@ chain_above false one more first second = second
 
 -- The groups of the numbers have the keys of their chains.
 record HaveChains (t : TraceValue) (g : Groups) : Type 0 where
-  nodes : nodes_of g ≡ suc (event_total t)
+  nodes : node_count g ≡ suc (event_total t)
   keys : (k : ℕ) → k < suc (event_total t) → group_of g k ≡ chain_at (layout_of t) (event_at t k)
 
-key_at : (t : TraceValue) (g : Groups) → HaveChains t g → (n : ℕ) (e : Event) → n < nodes_of g → event_at t n ≡ Some e → group_of g n ≡ chain_in (layout_of t) e
+key_at : (t : TraceValue) (g : Groups) → HaveChains t g → (n : ℕ) (e : Event) → n < node_count g → event_at t n ≡ Some e → group_of g n ≡ chain_in (layout_of t) e
 key_at t g have n e within at = have.keys n (let nodes = have.nodes in omega (arith, within, nodes)) ∙ ap (chain_at (layout_of t)) at
 
 -- events of one group have one processor and kind, and stores one place
@@ -184,7 +184,7 @@ stores_share_chain t g have p x y (d, at_x, d_store) (e, at_y, e_store) same d_o
     ∙ sym (key_at t g have y e (omega (arith, y_low, nodes)) at_y ∙ store_chain l e e_store)
 
 -- the groups of these keys are the chains of the trace
-pub chains_are : (t : TraceValue) (g : Groups) (keys : List ℕ) (n : ℕ) → IsTrace t → AreChainKeys t keys n → n ≡ suc (event_total t) → nodes_of g ≡ length keys → ((m : ℕ) → m < length keys → group_of g m ≡ get_or keys m 0) →
+pub chains_are : (t : TraceValue) (g : Groups) (keys : List ℕ) (n : ℕ) → IsTrace t → AreChainKeys t keys n → n ≡ suc (event_total t) → node_count g ≡ length keys → ((m : ℕ) → m < length keys → group_of g m ≡ get_or keys m 0) →
     count_of g ≡ layout_count (layout_of t) → AreChainsOf t g
 chains_are t g keys n trace are all sized keyed counted = record {
   nodes = have.nodes;

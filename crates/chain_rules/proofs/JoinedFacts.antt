@@ -1,19 +1,18 @@
 -- What numbers lead to once rows were joined.
-use Rattle.std.proofs.Common.{◌≡◌, ◌⊎◌, inl, inr, ℕ, zero, suc, ◌+◌, ◌*◌, ◌<◌, List, [], ◌∷◌, ◌++◌, length, get_or, refl, sym, subst, ◌∙◌, ap, arith}
+use Rattle.std.proofs.Common.{◌≡◌, ◌⊎◌, inl, inr, ℕ, suc, ◌+◌, ◌*◌, ◌<◌, List, [], ◌∷◌, ◌++◌, length, get_or, refl, sym, subst, ◌∙◌, ap, arith}
 use Rattle.std.specs.Prelude.{Contains}
 use Rattle.std.proofs.lemmas.Bool.{cases_eq, cases_lt}
 use Rattle.std.proofs.lemmas.List.Elements.{Contains-append_left, Contains-push, Contains-push_cases}
-use Rattle.std.specs.Global.{Vec}
 use Rattle.order_paths.specs.Paths.{Reaches}
 use Rattle.order_paths.proofs.Reach.{Reaches-edge, Reaches-join, Reaches-mono, Reaches-into}
 use Rattle.tso_ops.specs.Values.{TraceValue, rows}
 use Rattle.tso_model.specs.Ranks.{RankSet}
 use Rattle.chain_reach.specs.declared.types.Reach.{Reach}
 use Rattle.chain_reach.specs.Groups.{IsLaterIn}
-use Rattle.chain_reach.specs.Leading.{Leads, IsOrLeads, HasGrown, Joins}
+use Rattle.chain_reach.specs.Leading.{Leads, IsOrLeads, LeadsToMore, Joins}
 use Rattle.chain_rules.specs.Chains.{AreChainsOf}
 use Rattle.chain_rules.specs.Rows.{IsRankReach, IsNewBy}
-use Rattle.chain_rules.specs.Rounds.{IsListed, AreLeastRows, JoinsListed}
+use Rattle.chain_rules.specs.Rounds.{IsInRowOf, AreLeastRows, JoinsListed}
 use Rattle.chain_rules.specs.Internal.Joined.{JoinsRow}
 
 -- whether a number leads to another
@@ -83,7 +82,7 @@ JoinsRow-step old now new u v row is on joins = record {
     then x y leads (inl e) = subst (λ n. Leads now x n) e leads
     then x y leads (inr more) = on x v y leads more
 
-    grown : (x y : ℕ) → Leads new x y → (Leads old x y → ⊥) → HasGrown new x
+    grown : (x y : ℕ) → Leads new x y → (Leads old x y → ⊥) → LeadsToMore new x
     grown x y leads not = elim (Leads-decided now x y) [
       | inl before ↦ joins.still_grown x (is.grown x y before not)
       | inr none ↦ elim (joins.leads x y leads) [
@@ -122,8 +121,8 @@ pub record JoinsBelow (old new : Reach) (numbers : List ℕ) (rows : List (List 
   pub kept : (x y : ℕ) → Leads old x y → Leads new x y
   pub joined : (u v : ℕ) → IsListedBelow numbers rows n u v → Leads new u v
   pub passes : (x y : ℕ) → Leads new x y → Leads old x y ⊎ ((u : ℕ) × (v : ℕ) × IsListedBelow numbers rows n u v × IsOrLeads new x u × IsOrLeads new v y)
-  pub grown : (x y : ℕ) → Leads new x y → (Leads old x y → ⊥) → HasGrown new x
-  pub still_grown : (x : ℕ) → HasGrown old x → HasGrown new x
+  pub grown : (x y : ℕ) → Leads new x y → (Leads old x y → ⊥) → LeadsToMore new x
+  pub still_grown : (x : ℕ) → LeadsToMore old x → LeadsToMore new x
   pub sound : (t : TraceValue) (k : ℕ) → ((u v : ℕ) → IsListedBelow numbers rows n u v → RankSet t k u v) → ((x y : ℕ) → Leads old x y → Reaches (RankSet t k) x y) →
       (x y : ℕ) → Leads new x y → Reaches (RankSet t k) x y
 
@@ -183,7 +182,7 @@ JoinsBelow-end old new numbers rows n is end = record {
   still_grown = is.still_grown;
 }
   where
-    below : (u v : ℕ) → IsListed numbers rows u v → IsListedBelow numbers rows n u v
+    below : (u v : ℕ) → IsInRowOf numbers rows u v → IsListedBelow numbers rows n u v
     below u v listed = (let low = listed.1 in (listed.0, omega (arith, low, end), listed.2, listed.3))
 
 -- ---- rank sets
@@ -237,5 +236,5 @@ next_rank t k old new numbers rows n is end on ordered rank least = record {
 
 -- the numbers of the row at a place are listed
 pub listed_at : (numbers : List ℕ) (made : List (List ℕ)) (i v : ℕ) (row : List ℕ) → i < length made → length made ≡ length numbers → row ≡ get_or made i [] → Contains row v →
-    IsListed numbers made (get_or numbers i 0) v
+    IsInRowOf numbers made (get_or numbers i 0) v
 listed_at numbers made i v row low count is has = (i, omega (arith, low, count), refl, subst (λ list. Contains list v) is has)

@@ -11,6 +11,5 @@ pub mod RowFacts
 pub mod RowListFacts
 pub mod RuleFacts
 pub mod SourceFacts
-pub mod SwapProcessorFacts
 pub mod TableFacts
 pub mod TraceBounds

@@ -3,7 +3,7 @@ use Rattle.std.proofs.Common.{◌≡◌, ◌⊎◌, inl, inr, ℕ, ◌+◌, ◌<
 use Rattle.std.proofs.lemmas.Bool.{cases_eq, cases_lt}
 use Rattle.std.proofs.lemmas.List.{get_or_past}
 use Rattle.chain_reach.specs.declared.types.Groups.{Groups}
-use Rattle.chain_reach.specs.Groups.{nodes_of, group_of}
+use Rattle.chain_reach.specs.Groups.{node_count, group_of}
 use Rattle.chain_rules.specs.Internal.Lowering.{Lowers, LowersAt}
 
 -- the number of one chain was lowered, to the least that must be
@@ -34,7 +34,7 @@ Lowers-at chains old new chain n Must May lowered is allowed least = record {
 pub Lowers-row : (chains : Groups) (old new table : List ℕ) (start : ℕ) (Must May : ℕ → Type 0) → length new ≡ length old →
     ((d : ℕ) → d < length old → get_or new d 0 ≡ min (get_or old d 0) (get_or table (start + d) 0)) →
     ((v : ℕ) → Must v → (group_of chains v < length old) × (get_or table (start + group_of chains v) 0 ≤ v)) →
-    ((d : ℕ) → d < length old → get_or table (start + d) 0 < nodes_of chains → (group_of chains (get_or table (start + d) 0) ≡ d) × May (get_or table (start + d) 0)) →
+    ((d : ℕ) → d < length old → get_or table (start + d) 0 < node_count chains → (group_of chains (get_or table (start + d) 0) ≡ d) × May (get_or table (start + d) 0)) →
     Lowers chains old new Must May
 Lowers-row chains old new table start Must May sized lowered least allowed = record {
   sized = sized;

@@ -14,7 +14,7 @@ use Rattle.tso_rules.specs.Rows.{IsLater}
 use Rattle.tso_rules.specs.Internal.MarkedRows.{IsOrdered}
 use Rattle.tso_rules.proofs.BaseFacts.{later_is, later_earlier}
 use Rattle.chain_reach.specs.declared.types.Groups.{Groups}
-use Rattle.chain_reach.specs.Groups.{nodes_of, IsIn}
+use Rattle.chain_reach.specs.Groups.{node_count, IsIn}
 use Rattle.chain_rules.specs.Chains.{AreTogether, AreChainsOf}
 use Rattle.chain_rules.specs.Internal.BaseJoins.{IsAfter}
 
@@ -23,11 +23,11 @@ after_greater t u v (inl init) = let above = event_above_zero t v init.1 in let 
 after_greater t u v (inr later) = (later_earlier t u v later).5
 
 -- an event is a number of the chains
-pub event_node : (t : TraceValue) (g : Groups) → AreChainsOf t g → (n : ℕ) → IsEvent t n → n < nodes_of g
+pub event_node : (t : TraceValue) (g : Groups) → AreChainsOf t g → (n : ℕ) → IsEvent t n → n < node_count g
 event_node t g chains n event = let low = IsEvent-within t n event in let nodes = chains.nodes in omega (arith, low, nodes)
 
 -- what comes after is a number of the chains
-pub after_within : (t : TraceValue) (g : Groups) → AreChainsOf t g → (u v : ℕ) → IsAfter t u v → v < nodes_of g
+pub after_within : (t : TraceValue) (g : Groups) → AreChainsOf t g → (u v : ℕ) → IsAfter t u v → v < node_count g
 after_within t g chains u v after =
     event_node t g chains v (elim after [ inl init ↦ init.1 | inr later ↦ (let e = later_earlier t u v later in (e.1, e.3)) ])
 

@@ -21,11 +21,11 @@ use Rattle.tso_model.specs.Ranks.{RankSet, IsLast, IsRounds}
 use Rattle.tso_model.proofs.LastRankSet.{IsLast-all}
 use Rattle.tso_model.proofs.Bounds.{InferredBy-within}
 use Rattle.chain_reach.specs.declared.types.Reach.{Reach}
-use Rattle.chain_reach.specs.Groups.{nodes_of, IsLaterIn}
+use Rattle.chain_reach.specs.Groups.{node_count, IsLaterIn}
 use Rattle.chain_reach.specs.Leading.{Leads, IsOrLeads}
 use Rattle.chain_rules.specs.Chains.{AreChainsOf}
 use Rattle.chain_rules.specs.Rows.{IsRankReach, IsNewBy, IsLeastRow}
-use Rattle.chain_rules.specs.Rounds.{IsListed, IsRowList, AreRowsWithin, AreLeastRows, ClosesCycle, JoinsListed, FollowsRound}
+use Rattle.chain_rules.specs.Rounds.{IsInRowOf, IsRowList, AreRowsWithin, AreLeastRows, ClosesCycle, JoinsListed, FollowsRound}
 use Rattle.chain_rules.specs.Internal.RoundEnds.{AddsRound}
 use Rattle.std.proofs.lemmas.List.{length-map}
 use Rattle.chain_rules.proofs.RowFacts.{new_ends}
@@ -69,8 +69,8 @@ same_rows t one two numbers made same are = record {
 pub within_as : (one two : Reach) (numbers : List ℕ) (made : List (List ℕ)) → two.chains ≡ one.chains → AreRowsWithin one numbers made → AreRowsWithin two numbers made
 within_as one two numbers made same are = record {
   count = are.count;
-  numbers_within = λ i low. subst (λ g. get_or numbers i 0 < nodes_of g) (sym same) (are.numbers_within i low);
-  within = λ u v listed. subst (λ g. v < nodes_of g) (sym same) (are.within u v listed);
+  numbers_within = λ i low. subst (λ g. get_or numbers i 0 < node_count g) (sym same) (are.numbers_within i low);
+  within = λ u v listed. subst (λ g. v < node_count g) (sym same) (are.within u v listed);
 }
 
 -- ---- a round
@@ -91,7 +91,7 @@ round_closes old settled new numbers made same joins on acyclic x leads = elim (
   | inr by ↦ (by.0, by.1, by.2, round by.0 by.1 by.2 by.3 by.4)
 ]
   where
-    round : (u v : ℕ) → IsListed numbers made u v → IsOrLeads new x u → IsOrLeads new v x → Leads new v u
+    round : (u v : ℕ) → IsInRowOf numbers made u v → IsOrLeads new x u → IsOrLeads new v x → Leads new v u
     round u v listed (inl a) (inl b) = subst (λ n. Leads new n u) (sym b) (subst (λ n. Leads new x n) a leads)
     round u v listed (inl a) (inr q) = subst (λ n. Leads new v n) a q
     round u v listed (inr p) (inl b) = subst (λ n. Leads new n u) (sym b) p
@@ -262,7 +262,7 @@ none_new t r numbers made least empty u v new =
     empty at.0 first.0 first.1
 
 pub adds_round : (t : TraceValue) (old new : Reach) (numbers : List ℕ) (made : List (Vec ℕ)) (i v : ℕ) → AreRowsWithin old numbers (rows made) → AreLeastRows t old numbers (rows made) →
-    new.chains ≡ old.chains → ((x y : ℕ) → Leads old x y → Leads new x y) → ((u v : ℕ) → IsListed numbers (rows made) u v → Leads new u v) →
+    new.chains ≡ old.chains → ((x y : ℕ) → Leads old x y → Leads new x y) → ((u v : ℕ) → IsInRowOf numbers (rows made) u v → Leads new u v) →
     ((t : TraceValue) (k : ℕ) → IsRankReach t k old → AreLeastRows t old numbers (rows made) → FollowsRound t k old new) → i < length made → Contains (get_or (rows made) i []) v → AddsRound t old new
 adds_round t old new numbers made i v within least chains kept joined follows low has =
     let size = length-map made (λ (row : Vec ℕ). row.items) in
@@ -275,5 +275,5 @@ adds_round t old new numbers made i v within least chains kept joined follows lo
     }
 
 -- a listed edge that closes a cycle lets something lead to itself
-pub closed_led : (new : Reach) (numbers : List ℕ) (made : List (List ℕ)) → ((u v : ℕ) → IsListed numbers made u v → Leads new u v) → IsOn new → ClosesCycle new numbers made → (x : ℕ) × Leads new x x
+pub closed_led : (new : Reach) (numbers : List ℕ) (made : List (List ℕ)) → ((u v : ℕ) → IsInRowOf numbers made u v → Leads new u v) → IsOn new → ClosesCycle new numbers made → (x : ℕ) × Leads new x x
 closed_led new numbers made joined on closes = (closes.0, on closes.0 closes.1 closes.0 (joined closes.0 closes.1 closes.2) closes.3)

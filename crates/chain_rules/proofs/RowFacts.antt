@@ -16,7 +16,7 @@ use Rattle.tso_cert.specs.declared.rules.InferredRule.TheVariants.{LoadPast, Sto
 use Rattle.tso_model.proofs.Bounds.{InferredBy-within}
 use Rattle.tso_model.specs.Rules.{InferredBy}
 use Rattle.chain_reach.specs.declared.types.Reach.{Reach}
-use Rattle.chain_reach.specs.Groups.{nodes_of, count_of, group_of, IsLaterIn}
+use Rattle.chain_reach.specs.Groups.{node_count, count_of, group_of, IsLaterIn}
 use Rattle.chain_reach.specs.Leading.{Leads}
 use Rattle.chain_rules.specs.declared.types.RuleTables.{RuleTables}
 use Rattle.chain_rules.specs.Rows.{IsNewBy, IsLeastRow}
@@ -54,7 +54,7 @@ pub record AreLowered (t : TraceValue) (tables : RuleTables) (r : Reach) (u : �
   pub ready : AreReady t tables r
   pub sized : length least ≡ count_of r.chains
   pub must : (v : ℕ) → IsNewBy t r u v → get_or least (group_of r.chains v) 0 ≤ v
-  pub may : (d : ℕ) → d < length least → get_or least d 0 < nodes_of r.chains → (group_of r.chains (get_or least d 0) ≡ d) × IsGivenOrSame t r u (get_or least d 0)
+  pub may : (d : ℕ) → d < length least → get_or least d 0 < node_count r.chains → (group_of r.chains (get_or least d 0) ≡ d) × IsGivenOrSame t r u (get_or least d 0)
 
 pub AreLowered-from : (t : TraceValue) (tables : RuleTables) (r : Reach) (u nodes count : ℕ) (first least : List ℕ) → AreReady t tables r → nodes ≡ suc (event_total t) → count ≡ count_of r.chains →
     first ≡ replicate count nodes → Lowers r.chains first least (IsNewBy t r u) (IsGivenOrSame t r u) → AreLowered t tables r u least
@@ -81,7 +81,7 @@ LeastRow t tables r u least row lowered left = record { only = only; all = all }
     only : (v : ℕ) → Contains row v → IsNewBy t r u v
     only v has =
         let of = left.only v has in
-        let is = (lowered.may of.0 of.1 (subst (λ k. k < nodes_of r.chains) (sym of.2) of.3.1)).1 in
+        let is = (lowered.may of.0 of.1 (subst (λ k. k < node_count r.chains) (sym of.2) of.3.1)).1 in
         elim (subst (λ k. IsGivenOrSame t r u k) of.2 is) [
           | inl given ↦ (given, of.3.2)
           | inr same ↦ absurd (of.3.0 same)
@@ -89,13 +89,13 @@ LeastRow t tables r u least row lowered left = record { only = only; all = all }
 
     all : (v : ℕ) → IsNewBy t r u v → (w : ℕ) × Contains row w × ((w ≡ v) ⊎ IsLaterIn r.chains w v)
     all v new =
-        let within : v < nodes_of r.chains = ready_within t tables r v lowered.ready (new_ends t r u v new).1 in
+        let within : v < node_count r.chains = ready_within t tables r v lowered.ready (new_ends t r u v new).1 in
         let chain : group_of r.chains v < count_of r.chains = group_within r.chains v within in
         let w = get_or least (group_of r.chains v) 0 in
         let le : get_or least (group_of r.chains v) 0 ≤ v = lowered.must v new in
         let sized = lowered.sized in
         let place : group_of r.chains v < length least = omega (arith, chain, sized) in
-        let inside : get_or least (group_of r.chains v) 0 < nodes_of r.chains = omega (arith, le, within) in
+        let inside : get_or least (group_of r.chains v) 0 < node_count r.chains = omega (arith, le, within) in
         let of = lowered.may (group_of r.chains v) place inside in
         let later : (x : ℕ) → group_of r.chains x ≡ group_of r.chains v → x ≤ v → x ≢ v → IsLaterIn r.chains x v = λ x same less ne. (omega (arith, less, ne), within, same) in
         let apart : get_or least (group_of r.chains v) 0 ≢ u = λ e. new.1 (leads_later r u v

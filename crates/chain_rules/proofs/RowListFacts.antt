@@ -6,18 +6,15 @@ use Rattle.std.proofs.lemmas.List.{get_or_default, get_or_at, get_or_append_left
 use Rattle.bitsets.specs.Rows.{IsListOf, IsAscending}
 use Rattle.order_paths.proofs.Reach.{Reaches-edge, Reaches-mono}
 use Rattle.tso_ops.specs.Values.{TraceValue}
-use Rattle.tso_ops.specs.Events.{event_total, IsEvent, IsSwapLoad, HasSource}
-use Rattle.tso_ops.proofs.NumberFacts.{store_event, load_event, event_above_zero}
-use Rattle.tso_ops.proofs.TableFacts.{source_load}
+use Rattle.tso_ops.specs.Events.{event_total}
 use Rattle.tso_cert.specs.declared.rules.InferredRule.{InferredRule}
-use Rattle.tso_cert.specs.declared.rules.InferredRule.TheVariants.{LoadPast, StorePast, SwapBefore, SwapAfter}
 use Rattle.tso_model.specs.Rules.{InferredBy}
 use Rattle.tso_model.specs.NewEdges.{IsGivenBy}
 use Rattle.tso_model.specs.Ranks.{RankSet}
 use Rattle.tso_rules.specs.Affected.{RestsOn, IsAffected}
 use Rattle.tso_rules.proofs.AffectedFacts.{rests_within, rests_on_start, from_init}
 use Rattle.chain_reach.specs.declared.types.Reach.{Reach}
-use Rattle.chain_reach.specs.Leading.{Leads, HasGrown}
+use Rattle.chain_reach.specs.Leading.{Leads, LeadsToMore}
 use Rattle.chain_reach.proofs.ListFacts.{ascending_at, contains_or}
 use Rattle.chain_rules.specs.Rows.{IsNewBy}
 use Rattle.chain_rules.specs.Rounds.{IsRowList, FollowsRound}
@@ -82,7 +79,7 @@ still_led t k old new u v follows given none =
     kept leads = (follows.next.leads u v).1 (Reaches-mono (RankSet t k) (RankSet t (suc k)) (λ a b edge. inl edge) u v ((follows.ranked.leads u v).0 leads))
 
 -- a row that rests on no number that leads to more has no new edge
-unchanged : (t : TraceValue) (k : ℕ) (old new : Reach) (grown : List ℕ) (u v : ℕ) → FollowsRound t k old new → IsListOf grown (HasGrown new) → (IsAffected t grown u → ⊥) → IsNewBy t new u v → ⊥
+unchanged : (t : TraceValue) (k : ℕ) (old new : Reach) (grown : List ℕ) (u v : ℕ) → FollowsRound t k old new → IsListOf grown (LeadsToMore new) → (IsAffected t grown u → ⊥) → IsNewBy t new u v → ⊥
 unchanged t k old new grown u v follows list apart is =
     let p = is.0 in
     let by = p.2 in
@@ -92,7 +89,7 @@ unchanged t k old new grown u v follows list apart is =
       | inr none ↦ apart (by.0, list.all by.0 (follows.grown by.0 by.1 by.3 none), rests)
     ]
 
-pub changed_listed : (t : TraceValue) (k : ℕ) (old new : Reach) (grown numbers : List ℕ) → FollowsRound t k old new → IsListOf grown (HasGrown new) → IsListOf numbers (IsAffected t grown) → IsRowList t new numbers
+pub changed_listed : (t : TraceValue) (k : ℕ) (old new : Reach) (grown numbers : List ℕ) → FollowsRound t k old new → IsListOf grown (LeadsToMore new) → IsListOf numbers (IsAffected t grown) → IsRowList t new numbers
 changed_listed t k old new grown numbers follows list rows = record {
   ascending = pairs numbers rows.ascending;
   within = λ u has. (let rests = rows.only u has in let low = rests_within t rests.0 u rests.2 in omega (arith, low));
@@ -103,6 +100,6 @@ changed_listed t k old new grown numbers follows list rows = record {
 }
 
 -- a row that is listed rests on a number that leads to more
-pub changed_rests : (t : TraceValue) (r : Reach) (grown numbers : List ℕ) → IsListOf grown (HasGrown r) → IsListOf numbers (IsAffected t grown) →
-    (u : ℕ) → Contains numbers u → (x : ℕ) × HasGrown r x × RestsOn t x u
+pub changed_rests : (t : TraceValue) (r : Reach) (grown numbers : List ℕ) → IsListOf grown (LeadsToMore r) → IsListOf numbers (IsAffected t grown) →
+    (u : ℕ) → Contains numbers u → (x : ℕ) × LeadsToMore r x × RestsOn t x u
 changed_rests t r grown numbers list rows u has = (let rests = rows.only u has in (rests.0, list.only rests.0 rests.1, rests.2))

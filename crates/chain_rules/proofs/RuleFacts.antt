@@ -7,37 +7,36 @@ use Rattle.tso_ops.specs.Values.{TraceValue}
 use Rattle.tso_ops.specs.declared.events.Event.{Event}
 use Rattle.tso_ops.specs.Events.{processor_count, event_total, HasSource, IsLoad, IsLoadAt, IsStore, IsStoreTo, IsSwapLoad, IsEventOf, SameAddress, Earlier}
 use Rattle.tso_ops.proofs.NumberFacts.{event_unique, IsEvent-within, IsStore-within, HasSource-within}
-use Rattle.tso_ops.proofs.SwapFacts.{IsSwapLoad-store, IsSwapLoad-within}
+use Rattle.tso_ops.proofs.SwapFacts.{IsSwapLoad-store, IsSwapLoad-within, IsSwapLoad-processor}
 use Rattle.tso_ops.proofs.TableFacts.{source_load, one_source}
 use Rattle.tso_cert.specs.declared.rules.InferredRule.TheVariants.{LoadPast, StorePast, SwapBefore, SwapAfter}
 use Rattle.tso_rules.proofs.BaseFacts.{load_at, store_to}
 use Rattle.chain_reach.specs.declared.types.Groups.{Groups}
 use Rattle.chain_reach.specs.declared.types.Reach.{Reach}
-use Rattle.chain_reach.specs.Groups.{nodes_of, count_of, group_of, IsIn, IsFirstFrom}
+use Rattle.chain_reach.specs.Groups.{node_count, count_of, group_of, IsIn, IsFirstFrom}
 use Rattle.chain_reach.specs.Leading.{Leads}
 use Rattle.chain_rules.specs.declared.types.RuleTables.{RuleTables}
 use Rattle.chain_rules.specs.Internal.Lowering.{LowersAt, LowersFor, AreReady, IsNewOf, IsGivenOrSame}
 use Rattle.chain_rules.specs.Internal.Tables.{slot_of}
 use Rattle.chain_rules.proofs.LoweringFacts.{Lowers-at, Lowers-row, Lowers-none}
-use Rattle.chain_rules.proofs.SwapProcessorFacts.{swap_processor}
 
 -- x leads to just the members of chain d from n on
 pub record LeadsFrom (r : Reach) (x d n : ℕ) : Type 0 where
-  pub from : (y : ℕ) → y < nodes_of r.chains → group_of r.chains y ≡ d → Leads r x y ↔ (n ≤ y)
+  pub from : (y : ℕ) → y < node_count r.chains → group_of r.chains y ≡ d → Leads r x y ↔ (n ≤ y)
 
 -- a first number that is led to, with the chain of a number
 pub leads_from : (r : Reach) (x any chain n : ℕ) (g : Groups) → chain ≡ group_of g any → g ≡ r.chains →
-    ((y : ℕ) → y < nodes_of r.chains → group_of r.chains y ≡ chain → Leads r x y ↔ (n ≤ y)) → LeadsFrom r x (group_of r.chains any) n
+    ((y : ℕ) → y < node_count r.chains → group_of r.chains y ≡ chain → Leads r x y ↔ (n ≤ y)) → LeadsFrom r x (group_of r.chains any) n
 leads_from r x any chain n g is same all = record { from = λ y low e. all y low (e ∙ sym (is ∙ ap (λ (h : Groups). group_of h any) same)) }
 
 -- a number's group is one of them
-pub group_within : (g : Groups) (n : ℕ) → n < nodes_of g → group_of g n < count_of g
+pub group_within : (g : Groups) (n : ℕ) → n < node_count g → group_of g n < count_of g
 group_within g n low =
     let key : get_or g.keys.items n 0 < length (map (λ list. list.items) g.lists.items) = g.grouped.within n low in
     omega (arith, key, length-map g.lists.items (λ list. list.items))
 
 -- the numbers of events and the writer of the first values are those of the chains
-pub ready_within : (t : TraceValue) (tables : RuleTables) (r : Reach) (n : ℕ) → AreReady t tables r → n < suc (event_total t) → n < nodes_of r.chains
+pub ready_within : (t : TraceValue) (tables : RuleTables) (r : Reach) (n : ℕ) → AreReady t tables r → n < suc (event_total t) → n < node_count r.chains
 ready_within t tables r n ready low = (let nodes = ready.chains.nodes in omega (arith, nodes, low))
 
 -- ---- LoadPast
@@ -78,12 +77,12 @@ loads_together : (t : TraceValue) (tables : RuleTables) (r : Reach) (p a l m : �
     group_of r.chains l ≡ group_of r.chains m
 loads_together t tables r p a l m ready one two = ready.chains.loads p l m (one.0.0, one.0.1, one.0.2) (two.0.0, two.0.1, two.0.2) one.1 two.1
 
-pub load_within : (t : TraceValue) (tables : RuleTables) (r : Reach) (p a l : ℕ) → AreReady t tables r → IsLoadAt t a l × IsEventOf t p l → l < nodes_of r.chains
+pub load_within : (t : TraceValue) (tables : RuleTables) (r : Reach) (p a l : ℕ) → AreReady t tables r → IsLoadAt t a l × IsEventOf t p l → l < node_count r.chains
 load_within t tables r p a l ready load = ready_within t tables r l ready (IsEvent-within t l (load.0.0, load.0.1))
 
 -- each load of the place is a number of the chains, and so is u
 pub any_within : (t : TraceValue) (tables : RuleTables) (r : Reach) (u p a slot l : ℕ) → IsFromStore t tables r u p a slot → IsIn tables.loads slot l →
-    (l < nodes_of r.chains) × (u < nodes_of r.chains)
+    (l < node_count r.chains) × (u < node_count r.chains)
 any_within t tables r u p a slot l of inside = (
   load_within t tables r p a l of.ready ((loads_in t tables r u p a slot l of).0 inside),
   ready_within t tables r u of.ready (IsEvent-within t u (of.store.0, of.store.1)),
@@ -174,7 +173,7 @@ load_past_lowers t tables r u p a slot any from first old new from_store inside 
       | inr ne ↦ inl (LoadPast, m, (u, m, ((from_store.store.0, from_store.store.1, from_store.store.2), (from_store.store.0, load.0.0, from_store.store.1, load.0.1, from_store.store.3 ∙ sym load.0.3), source, λ e. ne (sym e), refl, refl), path))
     ]
 
-    allowed : (d : ℕ) → d < length old → get_or tables.least.items (first * count_of r.chains + d) 0 < nodes_of r.chains →
+    allowed : (d : ℕ) → d < length old → get_or tables.least.items (first * count_of r.chains + d) 0 < node_count r.chains →
         (group_of r.chains (get_or tables.least.items (first * count_of r.chains + d) 0) ≡ d) × IsGivenOrSame t r u (get_or tables.least.items (first * count_of r.chains + d) 0)
     allowed d less within =
         let nodes = from_store.ready.chains.nodes in
@@ -229,12 +228,12 @@ stores_together : (t : TraceValue) (tables : RuleTables) (r : Reach) (p a l m : 
 stores_together t tables r p a l m ready one two =
     ready.chains.stores p l m (one.0.0, one.0.1, one.0.2) (two.0.0, two.0.1, two.0.2) (one.0.0, two.0.0, one.0.1, two.0.1, one.0.3 ∙ sym two.0.3) one.1 two.1
 
-pub store_within : (t : TraceValue) (tables : RuleTables) (r : Reach) (p a l : ℕ) → AreReady t tables r → IsStoreTo t a l × IsEventOf t p l → l < nodes_of r.chains
+pub store_within : (t : TraceValue) (tables : RuleTables) (r : Reach) (p a l : ℕ) → AreReady t tables r → IsStoreTo t a l × IsEventOf t p l → l < node_count r.chains
 store_within t tables r p a l ready store = ready_within t tables r l ready (IsEvent-within t l (store.0.0, store.0.1))
 
 -- each store of the place is a number of the chains, and so are u and its source
 pub ends_within : (t : TraceValue) (tables : RuleTables) (r : Reach) (u s p a slot v : ℕ) → IsFromLoad t tables r u s p a slot → IsIn tables.stores slot v →
-    (v < nodes_of r.chains) × (u < nodes_of r.chains) × (s < nodes_of r.chains)
+    (v < node_count r.chains) × (u < node_count r.chains) × (s < node_count r.chains)
 ends_within t tables r u s p a slot v of inside = (
   store_within t tables r p a v of.ready ((stores_in t tables r u s p a slot v of).0 inside),
   ready_within t tables r u of.ready (HasSource-within t u s of.source).0,
@@ -313,7 +312,7 @@ swap_before_led t tables r u d v ready low new =
     let of : IsSwapLoad t v × (group_of r.chains (suc v) ≡ d) = (subst (λ k. IsSwapLoad t k) (sym by.1) by.0, subst (λ k. group_of r.chains (suc k) ≡ d) (sym by.1) new.0.1) in
     ((ready.tables.swaps d v low).1 of, of, subst (λ k. Leads r u (suc k)) (sym by.1) path)
 
-pub swap_store_within : (t : TraceValue) (tables : RuleTables) (r : Reach) (l : ℕ) → AreReady t tables r → IsSwapLoad t l → (l < nodes_of r.chains) × (suc l < nodes_of r.chains)
+pub swap_store_within : (t : TraceValue) (tables : RuleTables) (r : Reach) (l : ℕ) → AreReady t tables r → IsSwapLoad t l → (l < node_count r.chains) × (suc l < node_count r.chains)
 swap_store_within t tables r l ready swap =
     let within = IsSwapLoad-within t l swap in (ready_within t tables r l ready within.0, ready_within t tables r (suc l) ready within.1)
 
@@ -325,7 +324,7 @@ swap_loads_together t tables r l m ready one two same =
     let p = store.0.proc in
     let of : IsEventOf t p (suc m) =
     ready.chains.processors p (suc l) (suc m) ((swap_store_within t tables r l ready one).1, (swap_store_within t tables r m ready two).1, same) (store.0, store.1, refl) in
-    ready.chains.loads p m l (two.0, two.1, two.2) (one.0, one.1, one.2) (swap_processor t p m two of) (swap_processor t p l one (store.0, store.1, refl))
+    ready.chains.loads p m l (two.0, two.1, two.2) (one.0, one.1, one.2) (IsSwapLoad-processor t p m two of) (IsSwapLoad-processor t p l one (store.0, store.1, refl))
 
 pub swap_before_none : (t : TraceValue) (tables : RuleTables) (r : Reach) (u d from : ℕ) (old : List ℕ) → AreReady t tables r → d < count_of r.chains → LeadsFrom r u d from →
     ((w : ℕ) → IsIn tables.swaps d w → w < from) → LowersFor t r SwapBefore (λ l v. group_of r.chains (suc l) ≡ d) u old old

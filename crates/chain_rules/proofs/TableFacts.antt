@@ -13,7 +13,7 @@ use Rattle.tso_ops.proofs.NumberFacts.{event_unique, IsEvent-within}
 use Rattle.tso_ops.proofs.SwapFacts.{IsSwapLoad-within}
 use Rattle.chain_reach.specs.declared.types.Groups.{Groups}
 use Rattle.chain_reach.specs.declared.types.Reach.{Reach}
-use Rattle.chain_reach.specs.Groups.{nodes_of, count_of, group_of, IsIn}
+use Rattle.chain_reach.specs.Groups.{node_count, count_of, group_of, IsIn}
 use Rattle.chain_reach.specs.Leading.{Leads}
 use Rattle.chain_rules.specs.Chains.{address_total, AreChainsOf}
 use Rattle.chain_rules.specs.Tables.{AreTablesOf}
@@ -61,11 +61,11 @@ found_below None others low = omega arith
 found_below (Some s) others low = omega arith
 
 -- a group of such keys, but the last, has what has its key
-in_keys : (g : Groups) (keys : List ℕ) (Has : ℕ → ℕ → Type 0) (others n s k : ℕ) → AreKeys keys Has others n → nodes_of g ≡ length keys → ((m : ℕ) → m < length keys → group_of g m ≡ get_or keys m 0) →
+in_keys : (g : Groups) (keys : List ℕ) (Has : ℕ → ℕ → Type 0) (others n s k : ℕ) → AreKeys keys Has others n → node_count g ≡ length keys → ((m : ℕ) → m < length keys → group_of g m ≡ get_or keys m 0) →
     ((r : ℕ) → Has k r → Has k s → r ≡ s) → s < others → IsIn g s k ↔ ((k < n) × Has k s)
 in_keys g keys Has others n s k are all keyed one low = (to, from)
   where
-    nodes : nodes_of g ≡ n
+    nodes : node_count g ≡ n
     nodes = all ∙ are.sized
 
     key : k < n → group_of g k ≡ get_or keys k 0
@@ -100,7 +100,7 @@ slots_below t addresses loads n (Some s) is within (e, at, load, s_is) = (let lo
 
 -- the groups of these keys are those of the loads, or of the stores
 pub accesses_are : (t : TraceValue) (addresses : ℕ) (loads : Bool) (g : Groups) (keys : List ℕ) (n others : ℕ) → addresses ≡ address_total t → others ≡ processor_count t * addresses →
-    n ≡ suc (event_total t) → AreKeys keys (HasSlot t addresses loads) others n → nodes_of g ≡ length keys → ((m : ℕ) → m < length keys → group_of g m ≡ get_or keys m 0) → count_of g ≡ others + 1 → AreAccesses t addresses loads g
+    n ≡ suc (event_total t) → AreKeys keys (HasSlot t addresses loads) others n → node_count g ≡ length keys → ((m : ℕ) → m < length keys → group_of g m ≡ get_or keys m 0) → count_of g ≡ others + 1 → AreAccesses t addresses loads g
 accesses_are t addresses loads g keys n others all last nodes are sized keyed counted = record {
   slots = omega (arith, counted, last);
   is = λ p a k p_low a_low.
@@ -124,7 +124,7 @@ accesses_are t addresses loads g keys n others all last nodes are sized keyed co
 -- ---- the stores of swaps by chain
 
 pub swaps_are : (t : TraceValue) (chains g : Groups) (keys : List ℕ) (n others : ℕ) → others ≡ count_of chains → n ≡ suc (event_total t) → AreKeys keys (HasSwapChain t chains) others n →
-    nodes_of g ≡ length keys → ((m : ℕ) → m < length keys → group_of g m ≡ get_or keys m 0) → count_of g ≡ others + 1 → AreSwapStores t chains g
+    node_count g ≡ length keys → ((m : ℕ) → m < length keys → group_of g m ≡ get_or keys m 0) → count_of g ≡ others + 1 → AreSwapStores t chains g
 swaps_are t chains g keys n others last nodes are sized keyed counted = record {
   slots = omega (arith, counted, last);
   is = λ d k low.

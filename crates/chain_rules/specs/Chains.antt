@@ -7,7 +7,7 @@ use Rattle.tso_ops.specs.declared.events.Event.{Event}
 use Rattle.tso_ops.specs.Events.{processor_count, event_total, event_at, IsLoad, IsStore, IsEventOf, SameAddress}
 use Rattle.tso_model.specs.Ranks.{RankSet}
 use Rattle.chain_reach.specs.declared.types.Groups.{Groups}
-use Rattle.chain_reach.specs.Groups.{nodes_of, count_of, group_of, IsLaterIn}
+use Rattle.chain_reach.specs.Groups.{node_count, count_of, group_of, IsLaterIn}
 
 -- one more than the event's address; 1 where there is no event
 abbrev pub address_bound : Option Event → ℕ
@@ -35,13 +35,13 @@ chain_total t = 1 + processor_count t * (1 + chain_width t.setting.order (addres
 
 -- two numbers of one group
 abbrev pub AreTogether : Groups → ℕ → ℕ → Type 0
-AreTogether g x y = (x < nodes_of g) × (y < nodes_of g) × (group_of g x ≡ group_of g y)
+AreTogether g x y = (x < node_count g) × (y < node_count g) × (group_of g x ≡ group_of g y)
 
 -- The groups are chains of the trace: `init` and the events are their numbers, each has a base edge to each after it in its group, and a group
 -- has events of one processor and kind. The loads of a processor are one chain, and so are its stores to one address, maybe with others.
 -- There are fewer than 2^16 chains.
 pub record AreChainsOf (t : TraceValue) (g : Groups) : Type 0 where
-  pub nodes : nodes_of g ≡ suc (event_total t)
+  pub nodes : node_count g ≡ suc (event_total t)
   pub few : count_of g < 2 ^ 16
   pub ordered : (x y : ℕ) → IsLaterIn g x y → RankSet t 0 x y
   pub processors : (p x y : ℕ) → AreTogether g x y → IsEventOf t p x → IsEventOf t p y

@@ -4,8 +4,8 @@ ghost use Rattle.tso_ops.specs.Events.{HasSource};
 ghost use Rattle.tso_cert.specs.declared.rules.BaseRule.TheVariants.{Read};
 ghost use Rattle.tso_model.specs.Rules.{BasePair, IsOwnBy};
 ghost use Rattle.tso_rules.specs.Internal.MarkedRows.{IsReadBy};
-ghost use Rattle.chain_reach.specs.Groups.{nodes_of, count_of, IsIn};
-ghost use Rattle.chain_reach.specs.Leading.{Leads, HasGrown};
+ghost use Rattle.chain_reach.specs.Groups.{node_count, count_of, IsIn};
+ghost use Rattle.chain_reach.specs.Leading.{Leads, LeadsToMore};
 ghost use Rattle.chain_rules.specs.Chains.{AreChainsOf};
 ghost use Rattle.chain_rules.specs.Internal.BaseJoins.{IsAfter, IsFirstAfter, GrowsByBase};
 ghost use Rattle.chain_rules.specs.Rows.{IsRankReach};
@@ -28,7 +28,7 @@ pub fn base_reach(
     requires tables { AreTablesOf trace.now chains tables.now }
     ensures chains { IfOk result (λ r. r.chains ≡ chains) }
     ensures reach { IfOk result (IsRankReach trace.now 0) }
-    ensures settled { IfOk result (λ r. (x : ℕ) → HasGrown r x → ⊥) }
+    ensures settled { IfOk result (λ r. (x : ℕ) → LeadsToMore r x → ⊥) }
 {
     let mut reach = Reach::new(alloc, chains)?;
     for u in 0..trace.node_count() {
@@ -44,7 +44,7 @@ pub fn base_reach(
 /// Lets number `u` lead to what the rule Init or program order puts after it.
 fn join_later(trace: &Trace, reach: &mut Reach, u: usize)
     requires chains { AreChainsOf trace.now reach.old.chains }
-    requires from { u < nodes_of reach.old.chains }
+    requires from { u < node_count reach.old.chains }
     ensures grows { GrowsByBase trace.now reach.old reach.new }
     ensures led { (v : ℕ) → IsAfter trace.now u v → Leads reach.new u v }
 {
@@ -58,7 +58,7 @@ fn join_later(trace: &Trace, reach: &mut Reach, u: usize)
 /// The first event of chain `d` that the rule Init or program order puts after number `u`; None where none is.
 fn first_later(trace: &Trace, chains: &Groups, u: usize, d: usize) -> Option<usize>
     requires chains { AreChainsOf trace.now chains.now }
-    requires from { u < nodes_of chains.now }
+    requires from { u < node_count chains.now }
     requires chain { d < count_of chains.now }
     ensures { MatchOption result ((v : ℕ) → IsIn chains.now d v → IsAfter trace.now u v → ⊥) (IsFirstAfter trace.now chains.now d u) }
 {

@@ -3,7 +3,7 @@ ghost use Rattle.std.specs.Prelude.{◌≡◌, ◌↔◌, ◌<◌, ℕ, suc, IsT
 ghost use Rattle.order_paths.specs.Paths.{HasCycle, Reaches};
 ghost use Rattle.tso_ops.specs.Values.{TraceValue, rows};
 ghost use Rattle.tso_model.specs.Ranks.{RankSet};
-ghost use Rattle.chain_reach.specs.Groups.{nodes_of};
+ghost use Rattle.chain_reach.specs.Groups.{node_count};
 ghost use Rattle.chain_reach.specs.Leading.{Leads};
 ghost use Rattle.chain_rules.specs.Rows.{IsRankReach};
 ghost use Rattle.chain_rules.specs.Rounds.{AreRowsWithin, AreLeastRows, ClosesCycle, JoinsListed};
@@ -17,7 +17,8 @@ use chain_reach::Reach;
 pub fn join_rows(reach: &mut Reach, numbers: &[usize], made: &[Vec<u16>])
     requires { AreRowsWithin reach.old numbers.now (rows made.now) }
     ensures joined { JoinsListed reach.old reach.new numbers.now (rows made.now) }
-    ensures next { (t : TraceValue) (k : ℕ) → IsRankReach t k reach.old → AreLeastRows t reach.old numbers.now (rows made.now) → IsRankReach t (suc k) reach.new }
+    ensures next { (t : TraceValue) (k : ℕ) → IsRankReach t k reach.old → AreLeastRows t reach.old numbers.now (rows made.now) →
+        IsRankReach t (suc k) reach.new }
 {
     for (i, row) in made.iter().enumerate() {
         join_row(reach, numbers[i], row);
@@ -28,8 +29,8 @@ pub fn join_rows(reach: &mut Reach, numbers: &[usize], made: &[Vec<u16>])
 
 /// Lets number `u` lead to these numbers.
 fn join_row(reach: &mut Reach, u: usize, row: &[u16])
-    requires from { u < nodes_of reach.old.chains }
-    requires to { (v : ℕ) → Contains row.now v → v < nodes_of reach.old.chains }
+    requires from { u < node_count reach.old.chains }
+    requires to { (v : ℕ) → Contains row.now v → v < node_count reach.old.chains }
     ensures { JoinsRow reach.old reach.new u row.now }
 {
     for v in row {
@@ -56,8 +57,8 @@ pub fn closes_cycle(reach: &Reach, numbers: &[usize], made: &[Vec<u16>]) -> bool
 
 /// Whether one of these numbers leads to `u`.
 fn one_leads_to(reach: &Reach, row: &[u16], u: usize) -> bool
-    requires to { u < nodes_of reach.now.chains }
-    requires from { (v : ℕ) → Contains row.now v → v < nodes_of reach.now.chains }
+    requires to { u < node_count reach.now.chains }
+    requires from { (v : ℕ) → Contains row.now v → v < node_count reach.now.chains }
     ensures { IsTrue result ↔ ((v : ℕ) × Contains row.now v × Leads reach.now v u) }
 {
     for v in row {

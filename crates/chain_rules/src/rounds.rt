@@ -6,7 +6,7 @@ ghost use Rattle.tso_ops.specs.Values.{TraceValue, rows};
 ghost use Rattle.tso_model.specs.Ranks.{RankSet, IsRounds};
 ghost use Rattle.chain_reach.specs.Leading.{Leads};
 ghost use Rattle.chain_rules.specs.Chains.{AreChainsOf};
-ghost use Rattle.chain_rules.specs.Rounds.{IsListed, IsRowList, AreRowsWithin, AreLeastRows, ClosesCycle, FollowsRound};
+ghost use Rattle.chain_rules.specs.Rounds.{IsInRowOf, IsRowList, AreRowsWithin, AreLeastRows, ClosesCycle, FollowsRound};
 ghost use Rattle.chain_rules.specs.Internal.RoundEnds.{IsRoundEnd};
 ghost use Rattle.chain_rules.specs.Rows.{IsRankReach};
 ghost use Rattle.chain_rules.specs.Tables.{AreTablesOf};
@@ -153,11 +153,12 @@ fn are_empty(made: &[Vec<u16>]) -> bool
 fn add_round(reach: &mut Reach, numbers: &[usize], made: &[Vec<u16>])
     requires { AreRowsWithin reach.old numbers.now (rows made.now) }
     ensures chains { reach.new.chains ≡ reach.old.chains }
-    ensures joined { (u v : ℕ) → IsListed numbers.now (rows made.now) u v → Leads reach.new u v }
+    ensures joined { (u v : ℕ) → IsInRowOf numbers.now (rows made.now) u v → Leads reach.new u v }
     ensures kept { (x y : ℕ) → Leads reach.old x y → Leads reach.new x y }
     ensures closes { ((x : ℕ) → Leads reach.old x x → ⊥) → (x : ℕ) → Leads reach.new x x → ClosesCycle reach.new numbers.now (rows made.now) }
     ensures transitive { (x y z : ℕ) → Leads reach.new x y → Leads reach.new y z → Leads reach.new x z }
-    ensures follows { (t : TraceValue) (k : ℕ) → IsRankReach t k reach.old → AreLeastRows t reach.old numbers.now (rows made.now) → FollowsRound t k reach.old reach.new }
+    ensures follows { (t : TraceValue) (k : ℕ) → IsRankReach t k reach.old → AreLeastRows t reach.old numbers.now (rows made.now) →
+        FollowsRound t k reach.old reach.new }
 {
     reach.settle();
     join_rows(reach, numbers, made);

@@ -1,11 +1,11 @@
 //! Rows of new edges by chains.
 ghost use Rattle.std.specs.Prelude.{◌≡◌, ◌↔◌, ℕ, ◌<◌, Some, IfOk, IsTrue, length, slice_index};
 ghost use Rattle.tso_ops.specs.Events.{event_at, IsLoadAt, IsStoreTo};
-ghost use Rattle.chain_reach.specs.Groups.{nodes_of, count_of, group_of};
+ghost use Rattle.chain_reach.specs.Groups.{node_count, count_of, group_of};
 ghost use Rattle.chain_reach.specs.Leading.{Leads};
 ghost use Rattle.chain_rules.specs.Chains.{AreChainsOf};
-ghost use Rattle.chain_rules.specs.Internal.Lowering.{AreReady, Lowers, IsGivenOrSame, IsUnled, AreLeft};
-ghost use Rattle.chain_rules.specs.Rows.{IsNewBy, IsLeastRow};
+ghost use Rattle.chain_rules.specs.Internal.Lowering.{AreReady, LowersToNew, IsUnled, AreLeft};
+ghost use Rattle.chain_rules.specs.Rows.{IsLeastRow};
 ghost use Rattle.chain_rules.specs.Tables.{AreTablesOf};
 
 use crate::rules::{lower_load_past, lower_store_past, lower_swap_after, lower_swap_before};
@@ -49,7 +49,7 @@ fn lower_by_rules(input: RowTables<'_>, u: usize, event: Event, least: &mut [u16
     requires ready { AreReady input.trace.now input.tables.now input.reach.now }
     requires event { event_at input.trace.now u ≡ Some event }
     requires sized { length least.old ≡ count_of input.reach.now.chains }
-    ensures { Lowers input.entry.reach.now.chains least.old least.new (IsNewBy input.entry.trace.now input.entry.reach.now u) (IsGivenOrSame input.entry.trace.now input.entry.reach.now u) }
+    ensures { LowersToNew input.entry.trace.now input.entry.reach.now u least.old least.new }
 {
     if event.load {
         lower_by_load(input, u, event.a, least);
@@ -63,7 +63,7 @@ fn lower_by_load(input: RowTables<'_>, u: usize, a: u16, least: &mut [u16])
     requires ready { AreReady input.trace.now input.tables.now input.reach.now }
     requires load { IsLoadAt input.trace.now a u }
     requires sized { length least.old ≡ count_of input.reach.now.chains }
-    ensures { Lowers input.entry.reach.now.chains least.old least.new (IsNewBy input.entry.trace.now input.entry.reach.now u) (IsGivenOrSame input.entry.trace.now input.entry.reach.now u) }
+    ensures { LowersToNew input.entry.trace.now input.entry.reach.now u least.old least.new }
 {
     if let Some(s) = input.trace.source_number(u) {
         lower_store_past(input, u, s, a, least);
@@ -75,7 +75,7 @@ fn lower_by_store(input: RowTables<'_>, u: usize, a: u16, least: &mut [u16])
     requires ready { AreReady input.trace.now input.tables.now input.reach.now }
     requires store { IsStoreTo input.trace.now a u }
     requires sized { length least.old ≡ count_of input.reach.now.chains }
-    ensures { Lowers input.entry.reach.now.chains least.old least.new (IsNewBy input.entry.trace.now input.entry.reach.now u) (IsGivenOrSame input.entry.trace.now input.entry.reach.now u) }
+    ensures { LowersToNew input.entry.trace.now input.entry.reach.now u least.old least.new }
 {
     lower_load_past(input, u, a, least);
     lower_swap_before(input, u, least);
@@ -92,9 +92,10 @@ fn new_numbers(
     u: usize,
     least: &[u16],
 ) -> Result<Vec<u16>, OutOfMemory>
-    requires number { u < nodes_of reach.now.chains }
+    requires number { u < node_count reach.now.chains }
     requires sized { length least.now ≡ count_of reach.now.chains }
-    requires members { (d : ℕ) → d < length least.now → slice_index least.now d < nodes_of reach.now.chains → group_of reach.now.chains (slice_index least.now d) ≡ d }
+    requires members { (d : ℕ) → d < length least.now → slice_index least.now d < node_count reach.now.chains →
+        group_of reach.now.chains (slice_index least.now d) ≡ d }
     ensures { IfOk result (λ row. AreLeft reach.now u least.now (length least.now) row.items) }
 {
     let mut row = Vec::new(alloc);
@@ -108,9 +109,9 @@ fn new_numbers(
 
 /// Whether `v` is a number, which is then in chain `d`, but not `u`, and `u` doesn't lead to it.
 fn is_left(reach: &Reach, u: usize, d: usize, v: usize) -> bool
-    requires number { u < nodes_of reach.now.chains }
+    requires number { u < node_count reach.now.chains }
     requires chain { d < count_of reach.now.chains }
-    requires member { v < nodes_of reach.now.chains → group_of reach.now.chains v ≡ d }
+    requires member { v < node_count reach.now.chains → group_of reach.now.chains v ≡ d }
     ensures { IsTrue result ↔ IsUnled reach.now u v }
 {
     if v == u || v >= reach.chains().nodes() {

@@ -95,7 +95,8 @@ fn swap_before_in(input: RowTables<'_>, u: usize, d: usize, least: &mut [u16])
     requires store { IsStore input.trace.now u }
     requires chain { d < count_of input.reach.now.chains }
     requires sized { length least.old ≡ count_of input.reach.now.chains }
-    ensures { LowersFor input.entry.trace.now input.entry.reach.now InferredRule.SwapBefore (λ l v. group_of input.entry.reach.now.chains (suc l) ≡ d) u least.old least.new }
+    ensures { LowersFor input.entry.trace.now input.entry.reach.now InferredRule.SwapBefore
+        (λ l v. group_of input.entry.reach.now.chains (suc l) ≡ d) u least.old least.new }
 {
     let from = input.reach.first_led(u, d);
     if let Some(w) = input.tables.swaps.first_from(d, from) {
@@ -122,7 +123,8 @@ fn swap_after_in(input: RowTables<'_>, l: usize, d: usize, least: &mut [u16])
     requires swap { IsSwapLoad input.trace.now l }
     requires chain { d < count_of input.reach.now.chains }
     requires sized { length least.old ≡ count_of input.reach.now.chains }
-    ensures { LowersFor input.entry.trace.now input.entry.reach.now InferredRule.SwapAfter (λ k v. group_of input.entry.reach.now.chains v ≡ d) (suc l) least.old least.new }
+    ensures { LowersFor input.entry.trace.now input.entry.reach.now InferredRule.SwapAfter
+        (λ k v. group_of input.entry.reach.now.chains v ≡ d) (suc l) least.old least.new }
 {
     let from = input.reach.first_led(l, d);
     let Some(v) = input.reach.chains().first_from(d, from) else {

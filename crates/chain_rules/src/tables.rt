@@ -1,6 +1,6 @@
 //! How the tables of a trace are made.
 ghost use Rattle.std.specs.Prelude.{◌≡◌, ◌<◌, ◌^◌, ℕ, IfOk, IfSome, MatchOption};
-ghost use Rattle.chain_reach.specs.Groups.{nodes_of, count_of};
+ghost use Rattle.chain_reach.specs.Groups.{node_count, count_of};
 ghost use Rattle.chain_rules.specs.Chains.{AreChainsOf, address_total};
 ghost use Rattle.chain_rules.specs.Internal.Accesses.{AreAccesses, AreSwapStores, HasSlot, HasSwapChain};
 ghost use Rattle.chain_rules.specs.Internal.Tables.{slot_of};
@@ -90,7 +90,7 @@ fn swap_stores(alloc: Global, trace: &Trace, chains: &Groups) -> Result<Groups, 
 
 /// The chain of number `n`, where that is the store of a swap: the number before it is the load of one.
 fn swap_chain(trace: &Trace, chains: &Groups, n: usize) -> Option<usize>
-    requires { n < nodes_of chains.now }
+    requires { n < node_count chains.now }
     ensures is { MatchOption result ((d : ℕ) → HasSwapChain trace.now chains.now n d → ⊥) (HasSwapChain trace.now chains.now n) }
     ensures within { IfSome result (λ d. d < count_of chains.now) }
 {

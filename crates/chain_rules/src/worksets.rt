@@ -4,7 +4,7 @@ ghost use Rattle.tso_ops.specs.Values.{TraceValue};
 ghost use Rattle.tso_ops.specs.Events.{event_total};
 ghost use Rattle.tso_rules.specs.Affected.{RestsOn};
 ghost use Rattle.chain_reach.specs.declared.types.Reach.{Reach};
-ghost use Rattle.chain_reach.specs.Leading.{HasGrown};
+ghost use Rattle.chain_reach.specs.Leading.{LeadsToMore};
 ghost use Rattle.chain_rules.specs.Rounds.{IsRowList, FollowsRound};
 
 use chain_reach::Reach;
@@ -27,7 +27,7 @@ pub fn all_rows(alloc: Global, trace: &Trace) -> Result<Vec<usize>, OutOfMemory>
 /// allocation was refused.
 pub fn changed_rows(alloc: Global, trace: &Trace, reach: &Reach) -> Result<Vec<usize>, OutOfMemory>
     ensures rows { IfOk result (λ numbers. (k : ℕ) (old : Reach) → FollowsRound trace.now k old reach.now → IsRowList trace.now reach.now numbers.items) }
-    ensures only { IfOk result (λ numbers. (u : ℕ) → Contains numbers.items u → (x : ℕ) × HasGrown reach.now x × RestsOn trace.now x u) }
+    ensures only { IfOk result (λ numbers. (u : ℕ) → Contains numbers.items u → (x : ℕ) × LeadsToMore reach.now x × RestsOn trace.now x u) }
 {
     let grown = reach.grown(alloc)?;
     affected_rows(alloc, trace, &grown)

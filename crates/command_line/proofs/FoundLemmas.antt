@@ -21,13 +21,13 @@ use Rattle.request_options.specs.declared.logs.LogForm.{LogForm}
 use Rattle.request_options.specs.declared.logs.LogOptions.{LogOptions}
 use Rattle.command_line.specs.declared.options.RunOptions.{RunOptions}
 use Rattle.command_line.specs.declared.options.UnitOptions.{UnitOptions}
-use Rattle.command_line.specs.Requests.{Asked, Text, asked_of, batching, capacity_limit, checking, deciding, drain_turns_limit, judging, log_effort_limit, log_violation_limit, logging, number_limit, percent_limit, prints_trace, refusing, repeating, replaying, run_times_limit, running, verifying, worker_limit}
+use Rattle.command_line.specs.Requests.{Asked, Text, asked_of, batching, capacity_limit, checking, deciding, drain_turns_limit, judging, log_effort_limit, log_violation_limit, logging, number_limit, percent_limit, prints_trace, refusing, repeating, replaying, requested_worker_limit, run_times_limit, running, verifying}
 use Rattle.command_line.specs.declared.options.Presentation.{Presentation}
 use Rattle.command_line.specs.declared.options.Printing.{Printing}
-use Rattle.command_line.specs.Pictures.{chosen_picture, picture_of}
+use Rattle.command_line.specs.Pictures.{chosen_picture, picture_form}
 use Rattle.command_line.specs.declared.requests.Request.{Request}
 use Rattle.request_options.specs.declared.outcomes.OutcomeForm.{OutcomeForm}
-use Rattle.command_line.specs.Options.{batch_printing_of, is_true, log_form_of, log_options_in, log_options_of, number_of, number_or, outcome_form_of, pair_of, printing_of, run_of, unit_of, within, workers_of}
+use Rattle.command_line.specs.Options.{batch_printing_of, given_number, given_unit, is_true, log_form_of, log_options_in, log_options_of, number_or, outcome_form_of, pair_of, printing_of, run_of, within, workers_of}
 use Rattle.command_line.specs.Subcommands.{batch, batch_texts, check, decision_asked, draw, explain, file_of, log, log_parameters, outcomes, outcomes_asked, presented, replay, run, run_asked, run_parameters, verdict_asked, verify}
 use Rattle.command_line.specs.Commands.{asked_in, given_in}
 
@@ -61,14 +61,14 @@ read_in gives t None parses read = go (is_unsigned_in 0 (2 ^ 64 - 1) t) refl
 -- the number that was asked for, if there is one
 read_of : {E : Type 0} (gives : Text → Result ℕ E → Type 0) (found : Option Text) (r : Option ℕ)
     → ((t : Text) (x : Result ℕ E) → gives t x → ParsesUnsigned 64 10 t x)
-    → (found ≡ None → r ≡ None) → ((t : Text) → found ≡ Some t → ReadsOne gives t r) → r ≡ number_of found
+    → (found ≡ None → r ≡ None) → ((t : Text) → found ≡ Some t → ReadsOne gives t r) → r ≡ given_number found
 read_of gives None r parses none some = none refl
 read_of gives (Some t) r parses none some = read_in gives t r (parses t) (some t refl)
 
 module _ {E : Type 0} (gives : Text → Result ℕ E → Type 0) (f : Found) (name : Text) (r : Option ℕ) (parses : (t : Text) (x : Result ℕ E) → gives t x → ParsesUnsigned 64 10 t x)
     (none : one_text f name ≡ None → r ≡ None) (some : (t : Text) → one_text f name ≡ Some t → ReadsOne gives t r) where
-  pub number_read : r ≡ number_of (one_of name (rows_of f))
-  number_read = read_of gives (one_text f name) r parses none some ∙ ap number_of (one_text-rows f name)
+  pub number_read : r ≡ given_number (one_of name (rows_of f))
+  number_read = read_of gives (one_text f name) r parses none some ∙ ap given_number (one_text-rows f name)
 
   -- `other` where there is none
   pub number_found : (other : ℕ) → unwrap_or r other ≡ number_or other (one_of name (rows_of f))
@@ -94,7 +94,7 @@ pub flag_found : (E : Type 0) (f : Found) (name : Text) (r : Option Bool) → (o
 flag_found E f name r none some =
     flag_or_false E (one_text f name) r none some ∙ ap (λ o. option_map_or (λ text. bytes_eq text (codes "true")) o false) (one_text-rows f name)
 
-pub run_options_found : (given : Text → Option Text) (unit : UnitOptions) (workers : ℕ) (printing : Option Printing) (with_trace : Bool) → unit ≡ unit_of given → workers ≡ workers_of given
+pub run_options_found : (given : Text → Option Text) (unit : UnitOptions) (workers : ℕ) (printing : Option Printing) (with_trace : Bool) → unit ≡ given_unit given → workers ≡ workers_of given
     → printing ≡ printing_of (is_true (given (codes "trace"))) (is_true (given (codes "explain"))) → with_trace ≡ is_true (given (codes "with-trace"))
     → option_map (λ (p : Printing). record { unit = unit; workers = workers; printing = p; with_trace = with_trace }) printing ≡ run_of given
 run_options_found given unit workers printing with_trace unit_is workers_are printing_is with_trace_is = rw (unit_is, workers_are, printing_is, with_trace_is) refl
@@ -110,12 +110,12 @@ log_options_found given most effort max_unknown needs_end form most_is effort_is
 
 -- what `check` asks for with these texts, where there are any, and this number
 pub check_asked : (rows : List Row) (texts : Option (Option Text × Option Text)) → texts ≡ pair_of (file_of (first_of (codes "trace") rows)) (file_of (first_of (codes "cert") rows)) → (nth : Option ℕ)
-    → nth ≡ number_of (one_of (codes "nth") rows) → option_map_or (λ t. checking t.0 t.1 nth) texts refusing ≡ asked_in check rows
+    → nth ≡ given_number (one_of (codes "nth") rows) → option_map_or (λ t. checking t.0 t.1 nth) texts refusing ≡ asked_in check rows
 check_asked rows texts texts_are nth nth_is = rw (texts_are, nth_is) refl
 
 -- what `verify` asks for, likewise
 pub verify_asked : (rows : List Row) (texts : Option (Option Text × Option Text)) → texts ≡ pair_of (file_of (first_of (codes "trace") rows)) (file_of (first_of (codes "evidence") rows)) → (nth : Option ℕ)
-    → nth ≡ number_of (one_of (codes "nth") rows) → option_map_or (λ t. verifying t.0 t.1 nth) texts refusing ≡ asked_in verify rows
+    → nth ≡ given_number (one_of (codes "nth") rows) → option_map_or (λ t. verifying t.0 t.1 nth) texts refusing ≡ asked_in verify rows
 verify_asked rows texts texts_are nth nth_is = rw (texts_are, nth_is) refl
 
 -- the texts that arguments name, by those behind references
@@ -152,7 +152,7 @@ pub batch_asked : (rows : List Row) (names : List Text) (texts : Option (List (O
 batch_asked rows names texts names_are texts_are workers printing workers_are printing_is = rw (texts_are, names_are, workers_are, printing_is) refl
 
 -- what `draw` asks for in this form, where there is one
-pub draw_asked : (rows : List Row) (picture : Option Presentation) → picture ≡ picture_of (is_true (one_of (codes "decide") rows)) (chosen_picture (first_of (codes "edges") rows))
+pub draw_asked : (rows : List Row) (picture : Option Presentation) → picture ≡ picture_form (is_true (one_of (codes "decide") rows)) (chosen_picture (first_of (codes "edges") rows))
     → option_map_or (λ presentation. presented presentation (given_in explain.parameters rows)) picture refusing ≡ asked_in draw rows
 draw_asked rows picture picture_is = rw picture_is refl
 
@@ -190,18 +190,18 @@ module _ (P : Asked → Type 0) (refused : P refusing) where
   of_any ask asked (Some value) = asked value
 
   of_options : (ask : RunOptions → Asked) (given : Text → Option Text)
-      → ((options : RunOptions) → 1 ≤ options.workers → options.workers ≤ worker_limit → 1 ≤ options.unit.capacity → options.unit.capacity ≤ capacity_limit → 1 ≤ options.unit.trigger → P (ask options))
+      → ((options : RunOptions) → 1 ≤ options.workers → options.workers ≤ requested_worker_limit → 1 ≤ options.unit.capacity → options.unit.capacity ≤ capacity_limit → 1 ≤ options.unit.trigger → P (ask options))
       → P (option_map_or ask (run_of given) refusing)
   of_options ask given asked = go (printing_of (is_true (given (codes "trace"))) (is_true (given (codes "explain"))))
     where
       options : Printing → RunOptions
-      options printing = record { unit = unit_of given; workers = workers_of given; printing = printing; with_trace = is_true (given (codes "with-trace")) }
+      options printing = record { unit = given_unit given; workers = workers_of given; printing = printing; with_trace = is_true (given (codes "with-trace")) }
 
       go : (printing : Option Printing) → P (option_map_or ask (option_map options printing) refusing)
       go None = refused
       go (Some printing) = asked (options printing) (omega arith) (omega arith) (omega arith) (omega arith) (omega arith)
 
-  pub of_replay : ((options : RunOptions) (first second : Option Text) → 1 ≤ options.workers → options.workers ≤ worker_limit → 1 ≤ options.unit.capacity → options.unit.capacity ≤ capacity_limit
+  pub of_replay : ((options : RunOptions) (first second : Option Text) → 1 ≤ options.workers → options.workers ≤ requested_worker_limit → 1 ≤ options.unit.capacity → options.unit.capacity ≤ capacity_limit
       → 1 ≤ options.unit.trigger → P (replaying options first second))
       → (rows : List Row) → P (asked_in replay rows)
   of_replay asked rows =
@@ -209,7 +209,7 @@ module _ (P : Asked → Type 0) (refused : P refusing) where
       of_any _ (λ texts. asked options texts.0 texts.1 some most capacity capacity_most trigger)
       (pair_of (file_of (first_of (codes "program") rows)) (file_of (first_of (codes "schedule") rows))))
 
-  pub of_run : ((options : RunOptions) (seed turns : ℕ) (program : Option Text) → 1 ≤ options.workers → options.workers ≤ worker_limit → 1 ≤ options.unit.capacity → options.unit.capacity ≤ capacity_limit
+  pub of_run : ((options : RunOptions) (seed turns : ℕ) (program : Option Text) → 1 ≤ options.workers → options.workers ≤ requested_worker_limit → 1 ≤ options.unit.capacity → options.unit.capacity ≤ capacity_limit
       → 1 ≤ options.unit.trigger → turns ≤ drain_turns_limit → P (running options seed turns program))
       → ((unit : UnitOptions) (seed turns times : ℕ) (program : Option Text) → 1 ≤ unit.capacity → unit.capacity ≤ capacity_limit → 1 ≤ unit.trigger → turns ≤ drain_turns_limit
       → P (repeating unit seed turns times program))
@@ -231,12 +231,12 @@ module _ (P : Asked → Type 0) (refused : P refusing) where
       by_times options seed turns times program first second few =
           by_one (times == 1) _ _ (first few) (by_trace (prints_trace options.printing) _ (second few))
 
-  pub of_draw : ((presentation : Presentation) (file : Option Text) (workers : ℕ) (nth : Option ℕ) → 1 ≤ workers → workers ≤ worker_limit → P (judging presentation file workers nth))
-      → ((presentation : Presentation) (file : Option Text) (workers : ℕ) (nth : Option ℕ) (effort : ℕ) → 1 ≤ workers → workers ≤ worker_limit → P (deciding presentation file workers nth effort))
+  pub of_draw : ((presentation : Presentation) (file : Option Text) (workers : ℕ) (nth : Option ℕ) → 1 ≤ workers → workers ≤ requested_worker_limit → P (judging presentation file workers nth))
+      → ((presentation : Presentation) (file : Option Text) (workers : ℕ) (nth : Option ℕ) (effort : ℕ) → 1 ≤ workers → workers ≤ requested_worker_limit → P (deciding presentation file workers nth effort))
       → (rows : List Row) → P (asked_in draw rows)
   of_draw judged decided rows =
       of_any (λ presentation. presented presentation given) (λ presentation. either presentation (is_true (one_of (codes "decide") rows)))
-      (picture_of (is_true (one_of (codes "decide") rows)) (chosen_picture (first_of (codes "edges") rows)))
+      (picture_form (is_true (one_of (codes "decide") rows)) (chosen_picture (first_of (codes "edges") rows)))
     where
       given : Text → Option Text
       given = given_in draw.parameters rows
@@ -258,7 +258,7 @@ module _ (P : Asked → Type 0) (refused : P refusing) where
       go None = refused
       go (Some form) = asked file (options form) (omega arith) (omega arith) (omega arith) (omega arith)
 
-  pub of_batch : ((texts : List (Option Text)) (workers : ℕ) (printing : BatchPrinting) → 1 ≤ workers → workers ≤ worker_limit → count_by is_none texts ≤ 1 → P (batching texts workers printing)) → (rows : List Row) → P (asked_in batch rows)
+  pub of_batch : ((texts : List (Option Text)) (workers : ℕ) (printing : BatchPrinting) → 1 ≤ workers → workers ≤ requested_worker_limit → count_by is_none texts ≤ 1 → P (batching texts workers printing)) → (rows : List Row) → P (asked_in batch rows)
   of_batch asked rows = of_texts (several_in rows batch.parameters)
     where
       workers : ℕ

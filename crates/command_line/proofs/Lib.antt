@@ -3,6 +3,7 @@ pub mod Walks
 pub mod Rows
 pub mod Uses
 pub mod Refused
+pub mod ParameterUses
 pub mod GivenParameters
 pub mod Built
 pub mod FoundLemmas

@@ -16,7 +16,7 @@ use Rattle.clap.specs.Values.{reading_of, refused_kind}
 use Rattle.clap.specs.Walk.{Row, Rule, Text, is_empty, row_text}
 use Rattle.clap.specs.declared.builder.value_parser.Reading.TheVariants.{AsWritten}
 use Rattle.clap.proofs.WalkLemmas.{list_any-map}
-use Rattle.command_line.specs.Offered.{itself, several_in, text_in}
+use Rattle.command_line.specs.Offered.{itself, parameter_text_in, several_in}
 use Rattle.command_line.specs.Parameters.{Parameter, Values, any_text, listed, offered_rule, parser_of, range, takes, takes_default, valued}
 use Rattle.command_line.specs.Spelled.{OptionTakes, are_whole, several_given, texts_given}
 use Rattle.command_line.proofs.Rows.{DefaultsPass, has_id}
@@ -42,7 +42,7 @@ module _ {N : Type 0} (memory : N → Bor (List (Bor Text))) where
     -- ---- the texts
 
     pub option_text : (i : ℕ) (id : Text) (values : Values N) (default : Option Text) (required : Bool) (value : Option Text)
-        → IsOptionRow value (itself (rule_at i (valued id values default required))).2 (find (has_id id) rows) → text_in rows (valued id values default required) ≡ option_or value default
+        → IsOptionRow value (itself (rule_at i (valued id values default required))).2 (find (has_id id) rows) → parameter_text_in rows (valued id values default required) ≡ option_or value default
     option_text i id (range least most) None required None row = ap (option_and_then row_text) row
     option_text i id (range least most) (Some text) required None row = ap (option_and_then row_text) row
     option_text i id (range least most) default required (Some value) row = ap (option_and_then row_text) row.1 ∙ row.2
@@ -88,11 +88,11 @@ module _ {N : Type 0} (memory : N → Bor (List (Bor Text))) where
     -- ---- the parameters from the place i on
 
     pub record Outcome (i : ℕ) (ps : List (Parameter N)) (others : List Text) : Type 0 where
-      pub texts : map (text_in rows) ps ≡ texts_given options flags others ps
+      pub texts : map (parameter_text_in rows) ps ≡ texts_given options flags others ps
       pub required : list_any lacks (leaf_rules i ps) ≡ not (are_whole options others ps)
       pub several : several_in rows ps ≡ several_given others ps
 
-    pub one_more : (i : ℕ) (p : Parameter N) (ps : List (Parameter N)) (others later : List Text) (text : Option Text) (whole : Bool) → text_in rows p ≡ text → lacks (rule_at i p) ≡ not whole
+    pub one_more : (i : ℕ) (p : Parameter N) (ps : List (Parameter N)) (others later : List Text) (text : Option Text) (whole : Bool) → parameter_text_in rows p ≡ text → lacks (rule_at i p) ≡ not whole
         → texts_given options flags others (p ∷ ps) ≡ text ∷ texts_given options flags later ps → are_whole options others (p ∷ ps) ≡ (whole && are_whole options later ps)
         → (several_in rows ps ≡ several_given later ps → several_in rows (p ∷ ps) ≡ several_given others (p ∷ ps)) → Outcome (next i p) ps later → Outcome i (p ∷ ps) others
     one_more i p ps others later text whole is lack given_is whole_is more rest = record {

@@ -7,7 +7,7 @@ use Rattle.clap.specs.Simple.{App, on_top}
 use Rattle.clap.specs.Words.{IsAmong, Kinds, Row, fault_of, new_app, subcommand_of, with_subcommand}
 use Rattle.clap.specs.declared.error.kind.ErrorKind.{ErrorKind}
 use Rattle.clap.specs.declared.error.kind.ErrorKind.TheVariants.{DisplayHelp, DisplayVersion}
-use Rattle.command_line.specs.Offered.{several_in, text_in}
+use Rattle.command_line.specs.Offered.{parameter_text_in, several_in}
 use Rattle.command_line.specs.Parameters.{Parameter, offered_app}
 use Rattle.command_line.specs.declared.options.OptionNames.{OptionNames}
 use Rattle.command_line.specs.declared.options.Presentation.TheVariants.{Report}
@@ -43,7 +43,7 @@ tsobench_app names = fold (λ app c. with_subcommand app (offered_app (memory_of
 
 -- the text of the parameter of each name in the rows of a parse
 abbrev pub given_in : List (Parameter NameList) → List Row → Text → Option Text
-given_in parameters rows = text_by_name parameters (map (text_in rows) parameters)
+given_in parameters rows = text_by_name parameters (map (parameter_text_in rows) parameters)
 
 -- what a subcommand asks for whose parse left these rows
 abbrev pub asked_in : Subcommand → List Row → Asked

@@ -64,13 +64,13 @@ module _ {N : Type 0} (memory : N → Bor (List (Bor Text))) where
 
 module _ {N : Type 0} where
   -- numbers and flags are read by their types, names and other arguments as texts
-  abbrev pub text_in : List Row → Parameter N → Option Text
-  text_in rows (valued id (range least most) default required) = one_of id rows
-  text_in rows (valued id (listed n) default required) = first_of id rows
-  text_in rows (valued id any_text default required) = first_of id rows
-  text_in rows (flag id) = one_of id rows
-  text_in rows (other id required) = first_of id rows
-  text_in rows (several id) = first_of id rows
+  abbrev pub parameter_text_in : List Row → Parameter N → Option Text
+  parameter_text_in rows (valued id (range least most) default required) = one_of id rows
+  parameter_text_in rows (valued id (listed n) default required) = first_of id rows
+  parameter_text_in rows (valued id any_text default required) = first_of id rows
+  parameter_text_in rows (flag id) = one_of id rows
+  parameter_text_in rows (other id required) = first_of id rows
+  parameter_text_in rows (several id) = first_of id rows
 
   -- the texts of the parameter of which there may be several, in their order
   abbrev pub several_in : List Row → List (Parameter N) → List Text

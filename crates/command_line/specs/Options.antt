@@ -29,22 +29,22 @@ use Rattle.command_line.specs.declared.options.UnitKind.TheVariants.{Serial}
 use Rattle.command_line.specs.declared.options.UnitOptions.{UnitOptions}
 use Rattle.command_line.specs.declared.requests.Notes.{Notes}
 use Rattle.command_line.specs.Names.{formats, models, units}
-use Rattle.command_line.specs.Requests.{Text, capacity_limit, drain_turns_limit, log_effort_limit, log_violation_limit, number_limit, percent_limit, run_times_limit, worker_limit}
+use Rattle.command_line.specs.Requests.{Text, capacity_limit, drain_turns_limit, log_effort_limit, log_violation_limit, number_limit, percent_limit, requested_worker_limit, run_times_limit}
 
 -- the number of 64 bits that a text spells, in digits after a plus sign or none; none where there is no text, or it spells none
-abbrev pub number_of : Option Text → Option ℕ
-number_of text = option_and_then (λ t. if is_unsigned_in 0 number_limit t then Some (digits_value 10 (without_leading_plus t)) else None) text
+abbrev pub given_number : Option Text → Option ℕ
+given_number text = option_and_then (λ t. if is_unsigned_in 0 number_limit t then Some (digits_value 10 (without_leading_plus t)) else None) text
 
 -- that number, and `default` where there is none
 abbrev pub number_or : ℕ → Option Text → ℕ
-number_or default text = unwrap_or (number_of text) default
+number_or default text = unwrap_or (given_number text) default
 
 -- The nearest number within the limits. An option takes no other; what `clap` says of all arguments doesn't say so.
 abbrev pub within : ℕ → ℕ → ℕ → ℕ
 within least most n = max least (min n most)
 
 abbrev pub workers_of : (Text → Option Text) → ℕ
-workers_of given = within 1 worker_limit (number_or 1 (given (codes "workers")))
+workers_of given = within 1 requested_worker_limit (number_or 1 (given (codes "workers")))
 
 abbrev pub effort_of : (Text → Option Text) → ℕ
 effort_of given = number_or 100000 (given (codes "effort"))
@@ -55,8 +55,8 @@ drain_turns_of given = within 0 drain_turns_limit (number_or 0 (given (codes "dr
 abbrev pub times_of : (Text → Option Text) → ℕ
 times_of given = within 1 run_times_limit (number_or 1 (given (codes "times")))
 
-abbrev pub unit_of : (Text → Option Text) → UnitOptions
-unit_of given = record {
+abbrev pub given_unit : (Text → Option Text) → UnitOptions
+given_unit given = record {
   kind = unwrap_or (option_and_then (λ name. value_named name units) (given (codes "unit"))) Serial;
   capacity = within 1 capacity_limit (number_or 8 (given (codes "capacity")));
   trigger = within 1 number_limit (number_or 1 (given (codes "trigger")));
@@ -80,7 +80,7 @@ printing_of trace explain = if trace && explain then None else Some (if trace th
 
 abbrev pub run_of : (Text → Option Text) → Option RunOptions
 run_of given =
-    option_map (λ printing. record { unit = unit_of given; workers = workers_of given; printing = printing; with_trace = is_true (given (codes "with-trace")) })
+    option_map (λ printing. record { unit = given_unit given; workers = workers_of given; printing = printing; with_trace = is_true (given (codes "with-trace")) })
     (printing_of (is_true (given (codes "trace"))) (is_true (given (codes "explain"))))
 
 abbrev pub chosen_format : Option Text → BatchFormat
@@ -97,7 +97,7 @@ batch_printing_of given = record {
   format = chosen_format (given (codes "format"));
   quiet = is_true (given (codes "quiet"));
   violations = is_true (given (codes "violations"));
-  required = number_of (given (codes "require"));
+  required = given_number (given (codes "require"));
 }
 
 -- the form in which violations are shown, by whether the flags of traces and of explanations are used, of which one may be
@@ -118,8 +118,8 @@ log_options_of given =
     option_map (log_options_in given)
     (log_form_of (is_true (given (codes "trace"))) (is_true (given (codes "explain"))))
 
-abbrev pub shape_of : (Text → Option Text) → ShapeNumbers
-shape_of given = record {
+abbrev pub given_shape : (Text → Option Text) → ShapeNumbers
+given_shape given = record {
   processors = number_or 0 (given (codes "procs"));
   operations = number_or 0 (given (codes "ops"));
   addresses = number_or 0 (given (codes "addrs"));

@@ -18,8 +18,8 @@ abbrev pub chosen_picture : Option Text → Presentation
 chosen_picture text = unwrap_or (option_and_then (λ name. value_named name pictures) text) Picture
 
 -- this form, by whether a decision is drawn: none where it is and has the names of the field, which only the picture of a verdict has
-abbrev pub picture_of : Bool → Presentation → Option Presentation
-picture_of decides Report = Some Report
-picture_of decides Explanation = Some Explanation
-picture_of decides Picture = Some Picture
-picture_of decides FieldPicture = if decides then None else Some FieldPicture
+abbrev pub picture_form : Bool → Presentation → Option Presentation
+picture_form decides Report = Some Report
+picture_form decides Explanation = Some Explanation
+picture_form decides Picture = Some Picture
+picture_form decides FieldPicture = if decides then None else Some FieldPicture

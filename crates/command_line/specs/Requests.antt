@@ -95,8 +95,8 @@ asked_of (Show text) = showing
 asked_of (Refuse text) = refusing
 
 -- the greatest number of workers
-abbrev pub worker_limit : ℕ
-worker_limit = 64
+abbrev pub requested_worker_limit : ℕ
+requested_worker_limit = 64
 
 -- the greatest capacity of a store buffer, in entries
 abbrev pub capacity_limit : ℕ
@@ -164,7 +164,7 @@ needs asked = nothing_needed
 
 -- the number of workers is within its limits
 abbrev pub HasWorkers : Asked → Type 0
-HasWorkers asked = IfSome (needs asked).workers (λ workers. (1 ≤ workers) × (workers ≤ worker_limit))
+HasWorkers asked = IfSome (needs asked).workers (λ workers. (1 ≤ workers) × (workers ≤ requested_worker_limit))
 
 -- the options of a unit are within their ranges
 abbrev pub HasUnitRanges : Asked → Type 0

@@ -12,9 +12,9 @@ use Rattle.command_line.specs.declared.options.Presentation.TheVariants as form
 use Rattle.command_line.specs.declared.options.RunOptions.{RunOptions}
 use Rattle.command_line.specs.declared.parameters.NameList.{NameList}
 use Rattle.command_line.specs.declared.parameters.NameList.TheVariants.{Units, Models, Formats}
-use Rattle.command_line.specs.Pictures.{chosen_picture, edges, picture_of}
-use Rattle.command_line.specs.Requests.{Text, Asked, batching, campaigning, capacity_limit, checking, counting, deciding, drain_turns_limit, judging, listing, log_effort_limit, log_violation_limit, logging, making, number_limit, percent_limit, prints_trace, reducing, refusing, repeating, replaying, run_times_limit, running, verifying, worker_limit}
-use Rattle.command_line.specs.Options.{batch_printing_of, campaign_printing_of, chosen_order, drain_turns_of, effort_of, execution_of, is_true, log_options_of, number_of, number_or, outcome_form_of, pair_of, run_of, shape_of, times_of, unit_of, workers_of}
+use Rattle.command_line.specs.Pictures.{chosen_picture, edges, picture_form}
+use Rattle.command_line.specs.Requests.{Text, Asked, batching, campaigning, capacity_limit, checking, counting, deciding, drain_turns_limit, judging, listing, log_effort_limit, log_violation_limit, logging, making, number_limit, percent_limit, prints_trace, reducing, refusing, repeating, replaying, run_times_limit, running, verifying, requested_worker_limit}
+use Rattle.command_line.specs.Options.{batch_printing_of, campaign_printing_of, chosen_order, drain_turns_of, effort_of, execution_of, given_number, given_shape, given_unit, is_true, log_options_of, number_or, outcome_form_of, pair_of, run_of, times_of, workers_of}
 
 pub record Subcommand : Type 0 where
   pub name : Text
@@ -50,7 +50,7 @@ text_by_name parameters texts name = option_and_then (λ p. p.1) (find (λ p. by
 
 -- `--workers N`: 1 where it is left out
 abbrev pub workers : Parameter NameList
-workers = option (codes "workers") (range 1 worker_limit) (Some (codes "1"))
+workers = option (codes "workers") (range 1 requested_worker_limit) (Some (codes "1"))
 
 -- `--nth K`
 abbrev pub nth : Parameter NameList
@@ -117,11 +117,11 @@ format = option (codes "format") (listed Formats) (Some (codes "words"))
 
 -- the verdict on a trace in this form
 abbrev pub verdict_asked : Presentation → (Text → Option Text) → Asked
-verdict_asked presentation given = judging presentation (file_of (given (codes "file"))) (workers_of given) (number_of (given (codes "nth")))
+verdict_asked presentation given = judging presentation (file_of (given (codes "file"))) (workers_of given) (given_number (given (codes "nth")))
 
 -- the decision on a trace in this form
 abbrev pub decision_asked : Presentation → (Text → Option Text) → Asked
-decision_asked presentation given = deciding presentation (file_of (given (codes "file"))) (workers_of given) (number_of (given (codes "nth"))) (effort_of given)
+decision_asked presentation given = deciding presentation (file_of (given (codes "file"))) (workers_of given) (given_number (given (codes "nth"))) (effort_of given)
 
 -- `judge [--workers N] [--nth K] [--verbose] [FILE]`: judges a file, or standard input, or of the traces that stand there one after the other that of a number
 abbrev pub judge : Subcommand
@@ -148,7 +148,7 @@ abbrev pub draw : Subcommand
 draw = record {
   name = codes "draw";
   parameters = edges ∷ explain.parameters;
-  ask = λ given. option_map_or (λ presentation. presented presentation given) (picture_of (is_true (given (codes "decide"))) (chosen_picture (given (codes "edges")))) refusing;
+  ask = λ given. option_map_or (λ presentation. presented presentation given) (picture_form (is_true (given (codes "decide"))) (chosen_picture (given (codes "edges")))) refusing;
 }
 
 -- `decide [--effort N] [--workers N] [--nth K] [--verbose] [FILE]`: decides on such a trace, after 100,000 steps at most where the effort is left out
@@ -164,7 +164,7 @@ abbrev pub reduce : Subcommand
 reduce = record {
   name = codes "reduce";
   parameters = nth ∷ verbose ∷ other (codes "file") false ∷ [];
-  ask = λ given. reducing (file_of (given (codes "file"))) (number_of (given (codes "nth")));
+  ask = λ given. reducing (file_of (given (codes "file"))) (given_number (given (codes "nth")));
 }
 
 -- `batch [--workers N] [--format FORMAT] [--quiet] [--violations] [--decide] [--effort N] [--require N] [--progress] [--verbose] [FILE]...`: judges the traces that
@@ -192,7 +192,7 @@ check = record {
   name = codes "check";
   parameters = nth ∷ verbose ∷ other (codes "trace") true ∷ other (codes "cert") true ∷ [];
   ask = λ given.
-      option_map_or (λ texts. checking texts.0 texts.1 (number_of (given (codes "nth")))) (pair_of (file_of (given (codes "trace"))) (file_of (given (codes "cert")))) refusing;
+      option_map_or (λ texts. checking texts.0 texts.1 (given_number (given (codes "nth")))) (pair_of (file_of (given (codes "trace"))) (file_of (given (codes "cert")))) refusing;
 }
 
 -- `verify [--nth K] [--verbose] TRACE EVIDENCE`: checks evidence on a trace, or on that of a number among those that stand one after the other
@@ -201,7 +201,7 @@ verify = record {
   name = codes "verify";
   parameters = nth ∷ verbose ∷ other (codes "trace") true ∷ other (codes "evidence") true ∷ [];
   ask = λ given.
-      option_map_or (λ texts. verifying texts.0 texts.1 (number_of (given (codes "nth")))) (pair_of (file_of (given (codes "trace"))) (file_of (given (codes "evidence")))) refusing;
+      option_map_or (λ texts. verifying texts.0 texts.1 (given_number (given (codes "nth")))) (pair_of (file_of (given (codes "trace"))) (file_of (given (codes "evidence")))) refusing;
 }
 
 -- to count the outcomes of a stream: final states aren't asked for there, since a trace doesn't tell last values
@@ -264,7 +264,7 @@ make = record {
   ask = λ given. making (record {
     order = chosen_order (given (codes "model"));
     seed = number_or 0 (given (codes "seed"));
-    shape = shape_of given;
+    shape = given_shape given;
     schedule = is_true (given (codes "schedule"));
   });
 }
@@ -276,14 +276,14 @@ campaign = record {
   name = codes "campaign";
   parameters = unit_parameters ++ flag (codes "replay") ∷ drain_turns ∷ flag (codes "trace") ∷ progress ∷ model ∷ required (codes "first") ∷ required (codes "count") ∷ shape_parameters;
   ask = λ given. campaigning (record {
-    unit = unit_of given;
+    unit = given_unit given;
     workers = workers_of given;
     execution = execution_of (is_true (given (codes "replay"))) (drain_turns_of given);
     printing = campaign_printing_of (is_true (given (codes "trace")));
     order = chosen_order (given (codes "model"));
     first = number_or 0 (given (codes "first"));
     count = number_or 0 (given (codes "count"));
-    shape = shape_of given;
+    shape = given_shape given;
   });
 }
 

@@ -3,7 +3,7 @@ ghost use Rattle.std.specs.Prelude.{◌≡◌, [], codes, count_by, false, is_no
 ghost use Rattle.clap.specs.Words.{first_of, found_of, one_of, rows_of};
 ghost use Rattle.command_line.specs.Commands.{asked_in, given_in};
 ghost use Rattle.command_line.specs.Requests.{asked_of, files_of, refusing};
-ghost use Rattle.command_line.specs.Options.{batch_printing_of, campaign_printing_of, execution_of, is_true, log_form_of, log_options_of, method_of, pair_of, printing_of, run_of, shape_of, unit_of};
+ghost use Rattle.command_line.specs.Options.{batch_printing_of, campaign_printing_of, execution_of, given_shape, given_unit, is_true, log_form_of, log_options_of, method_of, pair_of, printing_of, run_of};
 ghost use Rattle.command_line.specs.Subcommands.{batch, batch_texts, campaign, check, decide, explain, file_of, judge, log, log_parameters, make, presented, reduce, replay, run_parameters, shape_parameters, unit_parameters, verify};
 
 pub(crate) use outcomes::outcomes;
@@ -289,7 +289,7 @@ fn pair_of<'a>(first: Option<&'a str>, second: Option<&'a str>) -> Option<TextPa
 
 /// What the options say of a shape.
 fn shape_numbers(matches: &ArgMatches<'_>) -> ShapeNumbers
-    ensures { result ≡ shape_of (given_in shape_parameters (rows_of (found_of matches.now))) }
+    ensures { result ≡ given_shape (given_in shape_parameters (rows_of (found_of matches.now))) }
 {
     ShapeNumbers {
         processors: number(matches, "procs", 0),
@@ -374,7 +374,7 @@ fn log_form(matches: &ArgMatches<'_>) -> Option<LogForm>
 
 /// What the options say of a unit.
 fn unit_options(matches: &ArgMatches<'_>) -> UnitOptions
-    ensures { result ≡ unit_of (given_in unit_parameters (rows_of (found_of matches.now))) }
+    ensures { result ≡ given_unit (given_in unit_parameters (rows_of (found_of matches.now))) }
 {
     let kind = matches.get_str("unit").and_then(kind_named);
     UnitOptions {

@@ -8,7 +8,7 @@ ghost use Rattle.clap.specs.Simple.{Shape};
 ghost use Rattle.clap.specs.Values.{refused_kind};
 ghost use Rattle.clap.specs.Walk.{Text, nothing_held, rows_after};
 ghost use Rattle.clap.specs.declared.error.kind.ErrorKind.TheVariants.{MissingRequiredArgument};
-ghost use Rattle.command_line.specs.Offered.{Offers, several_in, text_in};
+ghost use Rattle.command_line.specs.Offered.{Offers, parameter_text_in, several_in};
 ghost use Rattle.command_line.specs.Parameters.{Parameter, Values, parser_of, takes_default};
 ghost use Rattle.command_line.specs.Spelled.{Give, HaveWrongValue, LeaveOut, in_memory, names_at};
 
@@ -20,7 +20,7 @@ pub fn given_arguments_are_taken()
         → level_fault s [] nothing_held arguments false [] ≡ [] }
     ensures texts { (s : Shape) (parameters : List (Parameter (Bor (List (Bor Text))))) → Offers in_memory s parameters → list_all (takes_default names_at) parameters ≡ true
         → (arguments : List Text) (texts : List (Option Text)) (more : List Text) → Give names_at parameters arguments texts more
-        → map (text_in (rows_after s.rules [] arguments)) parameters ≡ texts }
+        → map (parameter_text_in (rows_after s.rules [] arguments)) parameters ≡ texts }
     ensures several { (s : Shape) (parameters : List (Parameter (Bor (List (Bor Text))))) → Offers in_memory s parameters → list_all (takes_default names_at) parameters ≡ true
         → (arguments : List Text) (texts : List (Option Text)) (more : List Text) → Give names_at parameters arguments texts more
         → several_in (rows_after s.rules [] arguments) parameters ≡ more }

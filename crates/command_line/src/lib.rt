@@ -14,8 +14,8 @@ mod values;
 
 pub use options::{
     CampaignOptions, MAX_CAPACITY, MAX_DRAIN_TURNS, MAX_LOG_EFFORT, MAX_LOG_VIOLATIONS,
-    MAX_RUN_TIMES, MAX_WORKERS, MakeOptions, Presentation, Printing, RunOptions, ShapeNumbers,
-    UnitKind, UnitOptions,
+    MAX_REQUESTED_WORKERS, MAX_RUN_TIMES, MakeOptions, Presentation, Printing, RunOptions,
+    ShapeNumbers, UnitKind, UnitOptions,
 };
 pub use requests::{
     BatchRequest, CheckRequest, CommandLine, DecideRequest, JudgeRequest, LogRequest, Notes,

@@ -9,7 +9,7 @@ use request_options::{BatchFormat, CampaignPrinting, Execution, FaultKind};
 use tso_ops::Order;
 
 /// The greatest number of workers.
-pub const MAX_WORKERS: usize = 64;
+pub const MAX_REQUESTED_WORKERS: usize = 64;
 
 /// The greatest capacity of a unit's store buffers, in entries.
 pub const MAX_CAPACITY: usize = 64;

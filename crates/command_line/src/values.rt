@@ -1,13 +1,13 @@
 //! What the matches of a subcommand have for its options, flags and other arguments.
 ghost use Rattle.std.specs.Prelude.{◌≡◌, ◌≤◌, codes, if◌then◌else◌, option_map, None, Some};
 ghost use Rattle.clap.specs.Words.{first_of, found_of, one_of, rows_of};
-ghost use Rattle.command_line.specs.Requests.{drain_turns_limit, run_times_limit, worker_limit};
+ghost use Rattle.command_line.specs.Requests.{drain_turns_limit, requested_worker_limit, run_times_limit};
 ghost use Rattle.command_line.specs.Pictures.{chosen_picture};
-ghost use Rattle.command_line.specs.Options.{chosen_format, chosen_order, is_true, number_of, number_or, within};
+ghost use Rattle.command_line.specs.Options.{chosen_format, chosen_order, given_number, is_true, number_or, within};
 ghost use Rattle.command_line.specs.Subcommands.{file_of};
 
 use crate::options::{
-    MAX_DRAIN_TURNS, MAX_RUN_TIMES, MAX_WORKERS, Presentation, format_named, order_named,
+    MAX_DRAIN_TURNS, MAX_REQUESTED_WORKERS, MAX_RUN_TIMES, Presentation, format_named, order_named,
     picture_named,
 };
 use clap::ArgMatches;
@@ -61,23 +61,23 @@ pub(crate) fn picture(matches: &ArgMatches<'_>) -> Presentation
 
 /// The number of a trace among those that stand one after the other; none where it is left out.
 pub(crate) fn nth(matches: &ArgMatches<'_>) -> Option<u64>
-    ensures { result ≡ number_of (one_of (codes "nth") (rows_of (found_of matches.now))) }
+    ensures { result ≡ given_number (one_of (codes "nth") (rows_of (found_of matches.now))) }
 {
     matches.get_one("nth")
 }
 
 /// How many traces of a batch have to be judged, at least; none where it is left out.
 pub(crate) fn required(matches: &ArgMatches<'_>) -> Option<u64>
-    ensures { result ≡ number_of (one_of (codes "require") (rows_of (found_of matches.now))) }
+    ensures { result ≡ given_number (one_of (codes "require") (rows_of (found_of matches.now))) }
 {
     matches.get_one("require")
 }
 
 /// The number of workers, 1 where none is named.
 pub(crate) fn workers(matches: &ArgMatches<'_>) -> usize
-    ensures { result ≡ within 1 worker_limit (number_or 1 (one_of (codes "workers") (rows_of (found_of matches.now)))) }
+    ensures { result ≡ within 1 requested_worker_limit (number_or 1 (one_of (codes "workers") (rows_of (found_of matches.now)))) }
 {
-    number_within(matches, "workers", 1, 1, MAX_WORKERS as u64) as usize
+    number_within(matches, "workers", 1, 1, MAX_REQUESTED_WORKERS as u64) as usize
 }
 
 /// How many steps the search for a decision does, at most: 100,000 where the effort is left out.

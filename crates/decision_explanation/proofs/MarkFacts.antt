@@ -8,10 +8,10 @@ use Rattle.tso_ops.specs.Values.{TraceValue}
 use Rattle.tso_evidence.specs.declared.refutations.RefutationLine.{RefutationLine}
 use Rattle.trace_explanation.specs.Internal.Tables.{AreMarks}
 use Rattle.trace_explanation.specs.Steps.{is_among}
-use Rattle.decision_explanation.specs.Cases.{is_named, line_numbers}
+use Rattle.decision_explanation.specs.Cases.{is_named_by_lines, line_numbers}
 
-pub marks_none : (t : TraceValue) (count : ℕ) (marks : List Bool) → length marks ≡ count → ((n : ℕ) → n < count → get_or marks n false ≡ false) → AreMarks (is_named t []) count marks
-unfolding is_named
+pub marks_none : (t : TraceValue) (count : ℕ) (marks : List Bool) → length marks ≡ count → ((n : ℕ) → n < count → get_or marks n false ≡ false) → AreMarks (is_named_by_lines t []) count marks
+unfolding is_named_by_lines
 marks_none t count marks counted unmarked = record { counted = counted; each = unmarked }
 
 or_swap : (a b : Bool) → (a || b) ≡ (b || (a || false))
@@ -21,9 +21,9 @@ or_swap false true = refl
 or_swap false false = refl
 
 -- one more line
-pub marks_more : (t : TraceValue) (lines : List RefutationLine) (i count : ℕ) (line : RefutationLine) (old new : List Bool) → i < length lines → line ≡ get_or lines i line → AreMarks (is_named t (take i lines)) count old →
-    length new ≡ length old → ((n : ℕ) → n < length old → get_or new n false ≡ (is_among n (line_numbers t line) || get_or old n false)) → AreMarks (is_named t (take (i + 1) lines)) count new
-unfolding is_named
+pub marks_more : (t : TraceValue) (lines : List RefutationLine) (i count : ℕ) (line : RefutationLine) (old new : List Bool) → i < length lines → line ≡ get_or lines i line → AreMarks (is_named_by_lines t (take i lines)) count old →
+    length new ≡ length old → ((n : ℕ) → n < length old → get_or new n false ≡ (is_among n (line_numbers t line) || get_or old n false)) → AreMarks (is_named_by_lines t (take (i + 1) lines)) count new
+unfolding is_named_by_lines
 marks_more t lines i count line old new within at before same marked =
     let more : take (i + 1) lines ≡ take i lines ++ line ∷ [] = take_more lines i line within ∙ ap (λ r. take i lines ++ r ∷ []) (sym at) in
     record {

@@ -5,7 +5,7 @@ use Rattle.tso_evidence.specs.declared.refutations.RefutationLine.{RefutationLin
 use Rattle.tso_evidence.specs.declared.refutations.RefutationLine.TheVariants.{Step, Case, Else}
 use Rattle.tso_evidence.specs.Refutations.{Refutation, cycle, step, split, lines_of}
 use Rattle.decision_explanation.specs.declared.in_force.NumberedPair.{NumberedPair}
-use Rattle.decision_explanation.specs.InForce.{after, after_lines, case_count, case_number, Standing}
+use Rattle.decision_explanation.specs.InForce.{standing_after, after_lines, case_count, case_number, Standing}
 
 -- some pairs more, and the same open cases
 pub record IsExtended (old new : Standing) : Type 0 where
@@ -23,8 +23,8 @@ abbrev numbered : ℕ → ℕ → ℕ → NumberedPair
 numbered number from to = record { number = number; from = from; to = to }
 
 -- after the first part of a case
-pub else_after : (s inside : Standing) (u v : ℕ) → IsExtended (after s (Case u v)) inside →
-    (case_number inside.cases ≡ s.next) × ((after inside (Else v u)).pairs ≡ numbered inside.next v u ∷ s.pairs) × ((after inside (Else v u)).cases ≡ s.cases)
+pub else_after : (s inside : Standing) (u v : ℕ) → IsExtended (standing_after s (Case u v)) inside →
+    (case_number inside.cases ≡ s.next) × ((standing_after inside (Else v u)).pairs ≡ numbered inside.next v u ∷ s.pairs) × ((standing_after inside (Else v u)).cases ≡ s.cases)
 else_after s inside u v more =
     let whole : inside.pairs ≡ (more.more ++ numbered s.next u v ∷ []) ++ s.pairs = more.pairs ∙ sym (append_assoc more.more (numbered s.next u v ∷ []) s.pairs) in
     let left : drop (length inside.pairs - case_count inside.cases) inside.pairs ≡ s.pairs =
@@ -33,7 +33,7 @@ else_after s inside u v more =
 
 after-append : (s : Standing) (lines others : List RefutationLine) → after_lines s (lines ++ others) ≡ after_lines (after_lines s lines) others
 after-append s [] others = refl
-after-append s (line ∷ lines) others = after-append (after s line) lines others
+after-append s (line ∷ lines) others = after-append (standing_after s line) lines others
 
 -- the lines of a refutation leave what was in force before them
 extended_from : (s mid new : Standing) (p : NumberedPair) → mid.pairs ≡ p ∷ s.pairs → mid.cases ≡ s.cases → IsExtended mid new → IsExtended s new
@@ -45,11 +45,11 @@ extended_from s mid new p pairs cases more = record {
 
 pub extended : (s : Standing) (r : Refutation) → IsExtended s (after_lines s (lines_of r))
 extended s (cycle numbers) = record { more = []; pairs = refl; cases = refl }
-extended s (step c rest) = extended_from s (after s (Step c)) _ (numbered s.next c.from c.to) refl refl (extended (after s (Step c)) rest)
+extended s (step c rest) = extended_from s (standing_after s (Step c)) _ (numbered s.next c.from c.to) refl refl (extended (standing_after s (Step c)) rest)
 extended s (split u v first second) =
-    let inside = after_lines (after s (Case u v)) (lines_of first) in
-    let there = after inside (Else v u) in
-    let parts = else_after s inside u v (extended (after s (Case u v)) first) in
+    let inside = after_lines (standing_after s (Case u v)) (lines_of first) in
+    let there = standing_after inside (Else v u) in
+    let parts = else_after s inside u v (extended (standing_after s (Case u v)) first) in
     let later : IsExtended s (after_lines there (lines_of second)) =
     extended_from s there (after_lines there (lines_of second)) (numbered inside.next v u) parts.1 parts.2 (extended there second) in
     let split_lines = after-append s (Case u v ∷ lines_of first) (Else v u ∷ lines_of second) in

@@ -40,16 +40,16 @@ abbrev pub without_case : Standing → Standing
 without_case s = record { next = s.next; pairs = drop (length s.pairs - case_count s.cases) s.pairs; cases = drop 1 s.cases }
 
 -- after a line
-abbrev pub after : Standing → RefutationLine → Standing
-after s (Step step) = with_pair step.from step.to s
-after s (Case u v) = with_pair u v (with_case s)
-after s (Else u v) = with_pair u v (without_case s)
-after s (Cycle cycle) = s
+abbrev pub standing_after : Standing → RefutationLine → Standing
+standing_after s (Step step) = with_pair step.from step.to s
+standing_after s (Case u v) = with_pair u v (with_case s)
+standing_after s (Else u v) = with_pair u v (without_case s)
+standing_after s (Cycle cycle) = s
 
 -- after these lines
 abbrev pub after_lines : Standing → List RefutationLine → Standing
 after_lines s [] = s
-after_lines s (line ∷ lines) = after_lines (after s line) lines
+after_lines s (line ∷ lines) = after_lines (standing_after s line) lines
 
 -- ---- numbers
 
@@ -63,5 +63,5 @@ last_number [] edge = None
 last_number (p ∷ pairs) edge = cond (is_pair edge p) (Some p.number) (last_number pairs edge)
 
 -- the same, or 0 where there is none
-abbrev pub number_of : List NumberedPair → ℕ × ℕ → ℕ
-number_of pairs edge = unwrap_or (last_number pairs edge) 0
+abbrev pub pair_number : List NumberedPair → ℕ × ℕ → ℕ
+pair_number pairs edge = unwrap_or (last_number pairs edge) 0

@@ -3,7 +3,7 @@ ghost use Rattle.std.specs.Prelude.{◌≡◌, ◌++◌, string_bytes, OnOk};
 ghost use Rattle.std.specs.List.{flat_map};
 ghost use Rattle.trace_explanation.specs.Namings.{naming_of};
 ghost use Rattle.trace_explanation.specs.Places.{place_text};
-ghost use Rattle.decision_explanation.specs.Cases.{case_text, cases_head, cases_text, chain_text, contradiction_text, else_text, line_text, lines_text, link_text, step_text};
+ghost use Rattle.decision_explanation.specs.Cases.{case_text, cases_head, cases_text, chain_of_pairs_text, contradiction_text, else_text, link_of_pairs_text, refutation_line_text, refutation_lines_text, refutation_step_text};
 ghost use Rattle.decision_explanation.specs.InForce.{beginning, case_number};
 ghost use Rattle.decision_explanation.specs.Internal.Standings.{IsKept, standing_of};
 
@@ -70,7 +70,7 @@ fn push_lines(
     named: &NamedEvents<'_>,
     lines: &[RefutationLine],
 ) -> Result<(), AllocError>
-    ensures { OnOk result (string_bytes text.new ≡ string_bytes text.old ++ lines_text named.now beginning lines.now) }
+    ensures { OnOk result (string_bytes text.new ≡ string_bytes text.old ++ refutation_lines_text named.now beginning lines.now) }
 {
     let mut state = InForce::new(alloc);
     for line in lines {
@@ -89,7 +89,7 @@ fn push_line(
     line: &RefutationLine,
 ) -> Result<(), AllocError>
     requires { IsKept state.now }
-    ensures { OnOk result (string_bytes text.new ≡ string_bytes text.old ++ line_text named.now (standing_of state.now) line.now) }
+    ensures { OnOk result (string_bytes text.new ≡ string_bytes text.old ++ refutation_line_text named.now (standing_of state.now) line.now) }
 {
     match line {
         RefutationLine::Step(step) => push_step(alloc, text, named, state, step),
@@ -118,7 +118,7 @@ fn push_line(
 }
 
 /// Appends a step: its edge, and why it holds.
-#[tactic(auto, unfolding(crate::specs::Cases::step_text))]
+#[tactic(auto, unfolding(crate::specs::Cases::refutation_step_text))]
 fn push_step(
     alloc: Global,
     text: &mut String,
@@ -127,7 +127,7 @@ fn push_step(
     step: &CertStep,
 ) -> Result<(), AllocError>
     requires { IsKept state.now }
-    ensures { OnOk result (string_bytes text.new ≡ string_bytes text.old ++ step_text named.now (standing_of state.now).pairs (standing_of state.now).next step.now) }
+    ensures { OnOk result (string_bytes text.new ≡ string_bytes text.old ++ refutation_step_text named.now (standing_of state.now).pairs (standing_of state.now).next step.now) }
 {
     let number = state.next();
     let from = named.name(step.from as usize);
@@ -194,7 +194,7 @@ fn push_contradiction(
 }
 
 /// Appends a cycle as a chain.
-#[tactic(auto, unfolding(crate::specs::Cases::chain_text))]
+#[tactic(auto, unfolding(crate::specs::Cases::chain_of_pairs_text))]
 fn push_chain(
     alloc: Global,
     text: &mut String,
@@ -203,7 +203,7 @@ fn push_chain(
     cycle: &[u64],
 ) -> Result<(), AllocError>
     requires { IsKept state.now }
-    ensures { OnOk result (string_bytes text.new ≡ string_bytes text.old ++ chain_text named.now (standing_of state.now).pairs cycle.now) }
+    ensures { OnOk result (string_bytes text.new ≡ string_bytes text.old ++ chain_of_pairs_text named.now (standing_of state.now).pairs cycle.now) }
 {
     match cycle {
         [] => Ok(()),
@@ -224,7 +224,7 @@ fn push_links(
     links: &[(u64, u64)],
 ) -> Result<(), AllocError>
     requires { IsKept state.now }
-    ensures { OnOk result (string_bytes text.new ≡ string_bytes text.old ++ flat_map (link_text named.now (standing_of state.now).pairs) links.now) }
+    ensures { OnOk result (string_bytes text.new ≡ string_bytes text.old ++ flat_map (link_of_pairs_text named.now (standing_of state.now).pairs) links.now) }
 {
     for link in links {
         push_link(alloc, text, named, state, *link)?;
@@ -233,7 +233,7 @@ fn push_links(
 }
 
 /// Appends the line of an edge of a cycle.
-#[tactic(auto, unfolding(crate::specs::Cases::link_text))]
+#[tactic(auto, unfolding(crate::specs::Cases::link_of_pairs_text))]
 fn push_link(
     alloc: Global,
     text: &mut String,
@@ -242,7 +242,7 @@ fn push_link(
     link: (u64, u64),
 ) -> Result<(), AllocError>
     requires { IsKept state.now }
-    ensures { OnOk result (string_bytes text.new ≡ string_bytes text.old ++ link_text named.now (standing_of state.now).pairs link) }
+    ensures { OnOk result (string_bytes text.new ≡ string_bytes text.old ++ link_of_pairs_text named.now (standing_of state.now).pairs link) }
 {
     let (u, v) = link;
     let name = named.name(v as usize);

@@ -2,7 +2,7 @@
 ghost use Rattle.std.specs.Prelude.{◌≡◌, ◌≤◌, ◌<◌, ◌+◌, ◌^◌, drop, take, reverse, OnOk};
 ghost use Rattle.std.specs.BTreeMap.{Updates};
 ghost use Rattle.trace_explanation.specs.Internal.Tables.{pair_cmp};
-ghost use Rattle.decision_explanation.specs.InForce.{after, beginning, case_count, case_number, number_of, with_pair};
+ghost use Rattle.decision_explanation.specs.InForce.{beginning, case_count, case_number, pair_number, standing_after, with_pair};
 ghost use Rattle.decision_explanation.specs.Internal.Standings.{IsKept, standing_of};
 
 use std::alloc::{AllocError, Global};
@@ -68,7 +68,7 @@ impl InForce {
     /// The number of the last line in force that has the pair: 0 where there is none.
     pub(crate) fn number(&self, from: u64, to: u64) -> usize
         requires { IsKept self.now }
-        ensures { result ≡ number_of (standing_of self.now).pairs (from, to) }
+        ensures { result ≡ pair_number (standing_of self.now).pairs (from, to) }
     {
         match self.numbers.get(&(from, to)) {
             Some(number) => *number,
@@ -91,7 +91,7 @@ impl InForce {
         requires kept { IsKept self.old }
         requires room { self.old.next + 1 < 2 ^ 64 }
         ensures kept { OnOk result (IsKept self.new) }
-        ensures standing { OnOk result (standing_of self.new ≡ after (standing_of self.old) line.now) }
+        ensures standing { OnOk result (standing_of self.new ≡ standing_after (standing_of self.old) line.now) }
         ensures next { self.new.next ≤ self.old.next + 1 }
     {
         match line {

@@ -12,7 +12,7 @@ ghost use Rattle.tso_model.specs.Axioms.{IsModelOrder};
 ghost use Rattle.trace_explanation.specs.Names.{source_of};
 ghost use Rattle.decision_explanation.specs.Certificates.{certificate_of_evidence};
 ghost use Rattle.decision_explanation.specs.Claims.{EntrySays};
-ghost use Rattle.decision_explanation.specs.InForce.{after, after_lines, case_number, Standing};
+ghost use Rattle.decision_explanation.specs.InForce.{standing_after, after_lines, case_number, Standing};
 
 /// In an order that meets the axioms each load has a source, which its line names, and what the line says of it is true.
 pub fn entries_are_true()
@@ -23,8 +23,8 @@ pub fn entries_are_true()
 /// part. The cases that are open there are those before the case. At the end of the first part its case is the last open one,
 /// which is the one that the text of the second part names.
 pub fn second_parts_forget_first_parts()
-    ensures { (s : Standing) (u v : ℕ) (first : Refutation) → let inside = after_lines (after s (Case u v)) (lines_of first) in
-        (case_number inside.cases ≡ s.next) × ((after inside (Else v u)).pairs ≡ record { number = inside.next; from = v; to = u } ∷ s.pairs) × ((after inside (Else v u)).cases ≡ s.cases) }
+    ensures { (s : Standing) (u v : ℕ) (first : Refutation) → let inside = after_lines (standing_after s (Case u v)) (lines_of first) in
+        (case_number inside.cases ≡ s.next) × ((standing_after inside (Else v u)).pairs ≡ record { number = inside.next; from = v; to = u } ∷ s.pairs) × ((standing_after inside (Else v u)).cases ≡ s.cases) }
 {}
 
 /// Evidence that is a certificate has that certificate's explanation, and no other evidence has one.

@@ -5,10 +5,10 @@ ghost use Rattle.tso_ops.specs.Events.{event_total};
 ghost use Rattle.trace_explanation.specs.Internal.Tables.{AreMarks};
 ghost use Rattle.trace_explanation.specs.Names.{event_numbers};
 ghost use Rattle.trace_explanation.specs.Steps.{is_among};
-ghost use Rattle.decision_explanation.specs.Cases.{is_named, line_numbers};
+ghost use Rattle.decision_explanation.specs.Cases.{is_named_by_lines, line_numbers};
 
 use std::alloc::{AllocError, Global};
-use trace_explanation::{mark, mark_step};
+use trace_explanation::{mark_number, mark_step};
 use tso_evidence::RefutationLine;
 use tso_ops::Trace;
 
@@ -18,7 +18,7 @@ pub(crate) fn list_named(
     trace: &Trace,
     lines: &[RefutationLine],
 ) -> Result<Vec<usize>, AllocError>
-    ensures { IfOk result (λ events. events.items ≡ filter (is_named trace.now lines.now) (event_numbers trace.now)) }
+    ensures { IfOk result (λ events. events.items ≡ filter (is_named_by_lines trace.now lines.now) (event_numbers trace.now)) }
 {
     let marks = mark_named(alloc, trace, lines)?;
     let mut events = Vec::new(alloc);
@@ -36,7 +36,7 @@ fn mark_named(
     trace: &Trace,
     lines: &[RefutationLine],
 ) -> Result<Vec<bool>, AllocError>
-    ensures { IfOk result (λ marks. AreMarks (is_named trace.now lines.now) (suc (event_total trace.now)) marks.items) }
+    ensures { IfOk result (λ marks. AreMarks (is_named_by_lines trace.now lines.now) (suc (event_total trace.now)) marks.items) }
 {
     let mut marks = vec![in alloc; false; trace.node_count()]?;
     for line in lines {
@@ -53,8 +53,8 @@ fn mark_line(trace: &Trace, line: &RefutationLine, marks: &mut Vec<bool>)
     match line {
         RefutationLine::Step(step) => mark_step(trace, step, marks),
         RefutationLine::Case { first, second } => {
-            mark(marks, *first as usize);
-            mark(marks, *second as usize);
+            mark_number(marks, *first as usize);
+            mark_number(marks, *second as usize);
         },
         RefutationLine::Else { .. } | RefutationLine::Cycle(_) => {},
     }

@@ -2,8 +2,8 @@
 ghost use Rattle.std.specs.Prelude.{◌≡◌, ◌++◌, ◌∷◌, [], codes, cond, length, nat_lt, string_bytes, IfOk, OnOk};
 ghost use Rattle.std.specs.Fmt.{decimal};
 ghost use Rattle.std.specs.List.{flat_map, zip};
-ghost use Rattle.decision_explanation.specs.InForce.{number_of};
-ghost use Rattle.decision_explanation.specs.Reasons.{by_text, path_text, reason_text};
+ghost use Rattle.decision_explanation.specs.InForce.{pair_number};
+ghost use Rattle.decision_explanation.specs.Reasons.{by_lines_text, path_by_lines_text, reason_text};
 ghost use Rattle.decision_explanation.specs.Internal.Standings.{IsKept, standing_of};
 
 use crate::in_force::InForce;
@@ -29,7 +29,7 @@ pub(crate) fn reason_in_force(
 /// The numbers of the lines in force on which the path of a reason rests. OutOfMemory where an allocation was refused.
 fn path_words(alloc: Global, state: &InForce, reason: &Reason) -> Result<String, AllocError>
     requires { IsKept state.now }
-    ensures { IfOk result (λ text. string_bytes text ≡ path_text (standing_of state.now).pairs reason.now) }
+    ensures { IfOk result (λ text. string_bytes text ≡ path_by_lines_text (standing_of state.now).pairs reason.now) }
 {
     match reason {
         Reason::Base(_) => Ok(String::new(alloc)),
@@ -38,10 +38,10 @@ fn path_words(alloc: Global, state: &InForce, reason: &Reason) -> Result<String,
 }
 
 /// The numbers of the lines in force that have a path's edges. OutOfMemory where an allocation was refused.
-#[tactic(auto, unfolding(crate::specs::Reasons::by_text))]
+#[tactic(auto, unfolding(crate::specs::Reasons::by_lines_text))]
 fn by_words(alloc: Global, state: &InForce, path: &[u64]) -> Result<String, AllocError>
     requires { IsKept state.now }
-    ensures { IfOk result (λ text. string_bytes text ≡ by_text (standing_of state.now).pairs path.now) }
+    ensures { IfOk result (λ text. string_bytes text ≡ by_lines_text (standing_of state.now).pairs path.now) }
 {
     match path {
         [] | [_] => Ok(String::new(alloc)),
@@ -58,7 +58,7 @@ fn by_words(alloc: Global, state: &InForce, path: &[u64]) -> Result<String, Allo
 /// Appends the numbers of the edges from `y` along these numbers, each after a comma.
 fn push_more(text: &mut String, state: &InForce, y: u64, rest: &[u64]) -> Result<(), AllocError>
     requires { IsKept state.now }
-    ensures { OnOk result (string_bytes text.new ≡ string_bytes text.old ++ flat_map (λ edge. codes ", " ++ decimal (number_of (standing_of state.now).pairs edge)) (zip (y ∷ rest.now) rest.now)) }
+    ensures { OnOk result (string_bytes text.new ≡ string_bytes text.old ++ flat_map (λ edge. codes ", " ++ decimal (pair_number (standing_of state.now).pairs edge)) (zip (y ∷ rest.now) rest.now)) }
 {
     let mut previous = y;
     for z in rest {

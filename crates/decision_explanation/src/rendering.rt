@@ -5,7 +5,7 @@ ghost use Rattle.decision_explanation.specs.Explained.{decision_explained, expla
 
 use crate::explanations::{explain_evidence, explain_undecided};
 use std::alloc::Global;
-use trace_decisions::{Decision, DecisionRendering, render_decision_head};
+use trace_decisions::{Decision, render_decision_head};
 use trace_explanation::AsExplanation;
 use trace_reports::Rendering;
 use tso_ops::{OutOfMemory, Trace};
@@ -15,12 +15,12 @@ use tso_text::TextFault;
 #[derive(Clone, Copy)]
 pub struct AsDecisionExplanation;
 
-impl DecisionRendering for AsDecisionExplanation {
-    ghost said = { decision_explained };
+impl Rendering<Trace, Decision> for AsDecisionExplanation {
+    ghost rendered = { λ form. decision_explained };
 
-    ghost refused = { refusal_explained };
+    ghost refused = { λ form. refusal_explained };
 
-    fn text_of_decision(
+    fn text_of_found(
         &self,
         alloc: Global,
         trace: &Trace,
@@ -40,7 +40,7 @@ impl DecisionRendering for AsDecisionExplanation {
         AsExplanation.text_of_refusal(alloc, input, fault)
     }
 
-    ghost whole = { whole_explained };
+    ghost whole = { λ form. whole_explained };
 }
 
 /// Appends what explains a decision.

@@ -8,7 +8,7 @@ ghost use Rattle.tso_evidence.specs.declared.evidence.Evidence.TheVariants.{Refu
 ghost use Rattle.tso_evidence.specs.declared.refutations.RefutationLine.{RefutationLine};
 ghost use Rattle.tso_evidence.specs.Certificates.{evidence_of};
 ghost use Rattle.trace_pictures.specs.declared.captions.Caption.TheVariants.{Refuted};
-ghost use Rattle.trace_pictures.specs.Labels.{number_at};
+ghost use Rattle.trace_pictures.specs.Labels.{number_in_order};
 ghost use Rattle.trace_pictures.specs.Pictures.{numbered_picture, picture_text};
 ghost use Rattle.decision_pictures.specs.Pictures.{evidence_picture};
 
@@ -22,6 +22,6 @@ pub fn pictures_of_certificates()
 /// A number that stands at most once in an order has there the number k where it is the kth. So each event has its place in an
 /// order of the trace's model.
 pub fn numbers_are_places()
-    ensures places { (order : List ℕ) (n k : ℕ) → occurrences n order ≤ 1 → (number_at order n ≡ Some (suc k)) ↔ (slice_get order k ≡ Some n) }
-    ensures model { (t : TraceValue) (order : List ℕ) (n k : ℕ) → IsModelOrder t order → IsEvent t n → (number_at order n ≡ Some (suc k)) ↔ (slice_get order k ≡ Some n) }
+    ensures places { (order : List ℕ) (n k : ℕ) → occurrences n order ≤ 1 → (number_in_order order n ≡ Some (suc k)) ↔ (slice_get order k ≡ Some n) }
+    ensures model { (t : TraceValue) (order : List ℕ) (n k : ℕ) → IsModelOrder t order → IsEvent t n → (number_in_order order n ≡ Some (suc k)) ↔ (slice_get order k ≡ Some n) }
 {}

@@ -5,7 +5,7 @@ ghost use Rattle.decision_pictures.specs.Pictured.{decision_pictured};
 
 use crate::pictures::{draw_evidence, draw_undecided};
 use std::alloc::Global;
-use trace_decisions::{Decision, DecisionRendering};
+use trace_decisions::Decision;
 use trace_reports::{AsReport, Rendering};
 use tso_ops::{OutOfMemory, Trace};
 use tso_text::TextFault;
@@ -14,12 +14,12 @@ use tso_text::TextFault;
 #[derive(Clone, Copy)]
 pub struct AsDecisionPicture;
 
-impl DecisionRendering for AsDecisionPicture {
-    ghost said = { decision_pictured };
+impl Rendering<Trace, Decision> for AsDecisionPicture {
+    ghost rendered = { λ form. decision_pictured };
 
-    ghost refused = { refusal_shown };
+    ghost refused = { λ form. refusal_shown };
 
-    fn text_of_decision(
+    fn text_of_found(
         &self,
         alloc: Global,
         trace: &Trace,
@@ -39,7 +39,7 @@ impl DecisionRendering for AsDecisionPicture {
         AsReport.text_of_refusal(alloc, input, fault)
     }
 
-    ghost whole = { λ a b why. refl };
+    ghost whole = { λ form a b why. refl };
 }
 
 /// Appends the picture of a trace by a decision on it.

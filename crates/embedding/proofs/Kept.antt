@@ -10,6 +10,7 @@ use Rattle.tso_ops.specs.declared.events.Event.{Event}
 use Rattle.tso_ops.specs.Values.{TraceValue}
 use Rattle.tso_ops.specs.Events.{event_at, IsLoad, IsStore, IsSwapLoad, Earlier, HasFewerBarriersBefore, HasFewerStbarsBefore, KeepsStores}
 use Rattle.tso_model.specs.Axioms.{occurrences, place, IsUpTo}
+use Rattle.tso_model.proofs.Places.{occurrences-cons}
 use Rattle.tso_ops.proofs.NumberFacts.{event_unique}
 use Rattle.unit_core.specs.declared.steps.Step.{Step}
 use Rattle.unit_core.specs.declared.steps.Step.TheVariants.{Store, Drain, DrainAt, Load, Swap, Membar, Stbar}
@@ -17,7 +18,7 @@ use Rattle.unit_core.specs.Machine.{Entry, State, IsAllowed, buffer_of, oldest_o
 use Rattle.embedding.specs.RunOrder.{Numbering, ordered_by}
 use Rattle.embedding.proofs.Buffers.{stored_event, number_of_entry, entry_of_number, rises}
 use Rattle.embedding.proofs.Moments.{IsListed, IsNumbered, IsNumberedBefore}
-use Rattle.embedding.proofs.Places.{listed_at, listed_up_to, next_place, occurs-one, occurrences-cons}
+use Rattle.embedding.proofs.Places.{listed_at, listed_up_to, next_place, occurs-one}
 use Rattle.embedding.proofs.Steps.{own_numbered, unlisted_following, unlisted_waiting}
 use Rattle.embedding.proofs.Walk.{HoldsWhereTaken}
 

@@ -10,6 +10,7 @@ use Rattle.tso_ops.specs.Settings.{first_value}
 use Rattle.tso_ops.specs.Values.{TraceValue}
 use Rattle.tso_ops.specs.Events.{event_at, IsLoad, IsStore, IsStoreTo, HasValue, Earlier, SameAddress, SameValue}
 use Rattle.tso_model.specs.Axioms.{occurrences, IsUpTo, IsVisible, ReadsGreatest}
+use Rattle.tso_model.proofs.Places.{occurrences-cons, place-listed}
 use Rattle.tso_ops.proofs.NumberFacts.{event_unique}
 use Rattle.unit_core.specs.declared.steps.Step.{Step}
 use Rattle.unit_core.specs.declared.steps.Step.TheVariants.{Store, Drain, DrainAt, Load, Swap, Membar, Stbar}
@@ -18,7 +19,7 @@ use Rattle.embedding.specs.RunOrder.{Numbering, ordered_by}
 use Rattle.embedding.proofs.Buffers.{AreWaiting, all-at, entry_of_number, number_of_entry, stored_event}
 use Rattle.embedding.proofs.Kept.{listed_or_waits, not_load, not_store}
 use Rattle.embedding.proofs.Moments.{IsLastValue, IsListed, IsNumbered, IsNumberedBefore}
-use Rattle.embedding.proofs.Places.{listed_at, listed_up_to, occurs-one, occurrences-cons, occurrences-one, place-listed, up_to_next}
+use Rattle.embedding.proofs.Places.{listed_at, listed_up_to, occurs-one, occurrences-one, up_to_next}
 use Rattle.embedding.proofs.Steps.{own_numbered, unlisted_following}
 use Rattle.embedding.proofs.Walk.{HoldsWhereTaken}
 

@@ -1,50 +1,17 @@
 -- Occurrences and places in lists that are put together, and from which an element is removed.
-use Rattle.std.proofs.Common.{◌≡◌, ◌≢◌, ◌∙◌, ◌⊎◌, inl, inr, sym, ap, refl, ℕ, zero, suc, ◌+◌, ◌<◌, ◌≤◌, Bool, true, false, cond, Some, List, [], ◌∷◌, ◌++◌, length, slice_get, eqb, arith}
+use Rattle.std.proofs.Common.{◌≡◌, ◌≢◌, ◌∙◌, ◌⊎◌, inl, inr, sym, ap, refl, ℕ, zero, suc, ◌+◌, ◌<◌, ◌≤◌, true, Some, List, [], ◌∷◌, ◌++◌, length, slice_get, eqb, arith}
 use Rattle.std.specs.List.{remove}
 use Rattle.std.proofs.lemmas.Bool.{cases_eq, cases_lt, eq-eqb}
 use Rattle.tso_model.specs.Axioms.{occurrences, place, IsUpTo}
-use Rattle.tso_model.proofs.Places.{place-here, place-later, occurrences-later}
-
--- a test adds one or none
-test-sum : (b : Bool) (k : ℕ) → cond b (suc k) k ≡ cond b 1 0 + k
-test-sum true k = omega arith
-test-sum false k = omega arith
-
-pub occurrences-cons : (n x : ℕ) (rest : List ℕ) → occurrences n (x ∷ rest) ≡ occurrences n (x ∷ []) + occurrences n rest
-occurrences-cons n x rest = test-sum (eqb x n) (occurrences n rest)
+use Rattle.tso_model.proofs.Places.{place-here, place-later, occurrences-later, occurrences-other, occurrences-same}
+pub use Rattle.tso_model.proofs.Places.{occurrences-append, occurrences-cons, place-listed, place-past}
 
 pub occurrences-one : (n : ℕ) → occurrences n (n ∷ []) ≡ 1
 occurrences-one n = let test : eqb n n ≡ true = eq-eqb n n refl in rw test
 
-pub occurrences-same : (n x : ℕ) → x ≡ n → occurrences n (x ∷ []) ≡ 1
-occurrences-same n x same = let test : eqb x n ≡ true = eq-eqb x n same in rw test
-
-pub occurrences-other : (n x : ℕ) → (x ≡ n → ⊥) → occurrences n (x ∷ []) ≡ 0
-occurrences-other n x other = occurrences-later n x [] other
-
-pub occurrences-append : (n : ℕ) (xs ys : List ℕ) → occurrences n (xs ++ ys) ≡ occurrences n xs + occurrences n ys
-occurrences-append n [] ys = omega arith
-occurrences-append n (x ∷ xs) ys = omega (arith, occurrences-cons n x (xs ++ ys), occurrences-cons n x xs, occurrences-append n xs ys)
-
 -- a number that occurs in the list is its only element
 pub occurs-one : (n x : ℕ) → 0 < occurrences n (x ∷ []) → x ≡ n
 occurs-one n x listed = elim (cases_eq x n) [ inl same ↦ same | inr other ↦ absurd (omega (arith, occurrences-other n x other)) ]
-
-pub place-listed : (n : ℕ) (xs ys : List ℕ) → 0 < occurrences n xs → (place (xs ++ ys) n ≡ place xs n) × (place xs n < length xs)
-place-listed n [] ys listed = absurd (omega arith)
-place-listed n (x ∷ xs) ys listed = elim (cases_eq x n) [
-  | inl same ↦ (place-here x (xs ++ ys) n same ∙ sym (place-here x xs n same), omega (arith, place-here x xs n same))
-  | inr other ↦
-      let rest = place-listed n xs ys (omega (arith, listed, occurrences-later n x xs other)) in
-      (place-later x (xs ++ ys) n other ∙ ap suc rest.0 ∙ sym (place-later x xs n other), omega (arith, rest.1, place-later x xs n other))
-]
-
-pub place-past : (n : ℕ) (xs ys : List ℕ) → occurrences n xs ≡ 0 → place (xs ++ ys) n ≡ length xs + place ys n
-place-past n [] ys none = omega arith
-place-past n (x ∷ xs) ys none = elim (cases_eq x n) [
-  | inl same ↦ absurd (omega (arith, none, occurrences-cons n x xs, occurrences-same n x same))
-  | inr other ↦ omega (arith, place-later x (xs ++ ys) n other, place-past n xs ys (omega (arith, none, occurrences-later n x xs other)))
-]
 
 -- a number that is listed before stands no later than one that isn't
 pub listed_up_to : (done later : List ℕ) (u n : ℕ) → 0 < occurrences u done → occurrences n done ≡ 0 → IsUpTo (done ++ later) u n

@@ -10,6 +10,7 @@ use Rattle.tso_ops.specs.declared.events.Event.{Event}
 use Rattle.tso_ops.specs.Values.{TraceValue}
 use Rattle.tso_ops.specs.Events.{event_at, IsEvent, IsStoreTo}
 use Rattle.tso_model.specs.Axioms.{occurrences, IsUpTo}
+use Rattle.tso_model.proofs.Places.{occurrences-append, occurrences-cons, occurrences-other, place-listed}
 use Rattle.tso_ops.proofs.NumberFacts.{event_unique}
 use Rattle.unit_core.specs.declared.steps.Step.{Step}
 use Rattle.unit_core.specs.declared.steps.Step.TheVariants.{Store, Drain, DrainAt, Load, Swap, Membar, Stbar}
@@ -18,7 +19,7 @@ use Rattle.unit_core.proofs.RunFacts.{next-other}
 use Rattle.embedding.specs.RunOrder.{Numbering, numbering_after, numberings_after, ordered_by}
 use Rattle.embedding.proofs.Buffers.{stored_event, number_of_entry}
 use Rattle.embedding.proofs.Moments.{HasSizes, IsLastValue, IsListed, IsMoment, IsNumbered, IsNumberedAt, IsNumberedBefore, drained-is, next-numbered, next-sizes, other_numbering, outcomes-other, outcomes-own, same_numbering, stbars-other}
-use Rattle.embedding.proofs.Places.{listed_up_to, numbers_from, numbers-before, numbers-past, numbers-within, occurrences-append, occurrences-cons, occurrences-one, occurrences-other, occurrences-remove, occurs-one, place-listed}
+use Rattle.embedding.proofs.Places.{listed_up_to, numbers_from, numbers-before, numbers-past, numbers-within, occurrences-one, occurrences-remove, occurs-one}
 
 -- The step of processor p issues so many events; each number that is issued or waited before is taken by memory or waits after it, and memory takes
 -- events of p alone.

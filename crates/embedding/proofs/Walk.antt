@@ -5,11 +5,11 @@ use Rattle.std.proofs.lemmas.List.{append-nil}
 use Rattle.tso_ops.specs.declared.settings.Order.{Order}
 use Rattle.tso_ops.specs.Values.{TraceValue}
 use Rattle.tso_model.specs.Axioms.{occurrences}
+use Rattle.tso_model.proofs.Places.{occurrences-append}
 use Rattle.unit_core.specs.declared.steps.Step.{Step}
 use Rattle.unit_core.specs.Machine.{State, HasProcessors, IsAllowed, IsRunFrom, after, next, proc_of}
 use Rattle.embedding.specs.RunOrder.{Numbering, numberings_after, order_from, ordered_by}
 use Rattle.embedding.proofs.Moments.{IsMoment}
-use Rattle.embedding.proofs.Places.{occurrences-append}
 use Rattle.embedding.proofs.Steps.{next_moment}
 
 -- The fact holds of each event that memory takes at a step of the run whose order this is.

@@ -12,9 +12,9 @@ use Rattle.tso_ops.specs.declared.ops.Op.{Op}
 use Rattle.tso_ops.specs.declared.ops.Op.TheVariants.{Ld as OpLd, St as OpSt, Sw as OpSw, Mb as OpMb, Sb as OpSb}
 use Rattle.tso_ops.specs.declared.ops.Outcome.{Outcome}
 use Rattle.tso_ops.specs.Values.{ProgramValue}
-use Rattle.final_states.specs.FinalStates.{AreAscending, FinalStateValue, is_below, numbers_of, value_read}
+use Rattle.final_states.specs.FinalStates.{AreAscending, FinalStateValue, is_below, state_numbers, value_read}
 use Rattle.final_states.specs.Internal.Search.{AreOnce}
-use Rattle.final_states.specs.Internal.Stands.{CanHave, Stands}
+use Rattle.final_states.specs.Internal.Stands.{CanHave, Represents}
 use Rattle.final_states.specs.Internal.Words.{entry_of, is_final, issued_by, marked_ops, memory_start, outcomes_with, start_of, state_with, stbar_count, waiting, width_of}
 use Rattle.tso_ops.proofs.RefusalFacts.{each-middle}
 use Rattle.unit_core.specs.Machine.{Entry, State}
@@ -77,7 +77,7 @@ last_rows (ops ∷ lists) (n ∷ words) room rows =
           (at ∙ there.0, subst P (sym from) there.1)),
     )
 
-pub final_rows : (program : ProgramValue) (addresses words : List ℕ) (s : State) (answered : ℕ → List Outcome) → Stands program addresses words s answered → is_final program words ≡ true → AreLastRows program.lists words
+pub final_rows : (program : ProgramValue) (addresses words : List ℕ) (s : State) (answered : ℕ → List Outcome) → Represents program addresses words s answered → is_final program words ≡ true → AreLastRows program.lists words
 final_rows program addresses words s answered stands final =
     last_rows program.lists words (omega (arith, stands.width)) (λ p small.
     let done = final-done program words final p small in
@@ -130,7 +130,7 @@ numbers-are (ops ∷ lists) (n ∷ words) room =
     ∙ ap (λ ys. read_marks (zip ops words) ++ ys)
     (ap (λ zs. filter_map value_read (flat zs) ++ drop (suc k + m) (n ∷ words)) later ∙ ap (λ ys. reads_of lists (drop k words) ++ ys) (sym memory) ∙ rest)
 
-pub numbers-same : (program : ProgramValue) (addresses words : List ℕ) → length words ≡ width_of program addresses → numbers_of (state_with program addresses words) ≡ numbers_in program.lists words
+pub numbers-same : (program : ProgramValue) (addresses words : List ℕ) → length words ≡ width_of program addresses → state_numbers (state_with program addresses words) ≡ numbers_in program.lists words
 unfolding reads_of
 numbers-same program addresses words width =
     let start = memory_start program in
@@ -244,16 +244,16 @@ ascends (w ∷ (v ∷ ws)) n lengths once sorted =
 
 abbrev AscendsStates : List FinalStateValue → Type 0
 AscendsStates [] = Unit {0}
-AscendsStates (s ∷ states) = AllByRecursion (λ t. is_below (numbers_of s) (numbers_of t) ≡ true) states × AscendsStates states
+AscendsStates (s ∷ states) = AllByRecursion (λ t. is_below (state_numbers s) (state_numbers t) ≡ true) states × AscendsStates states
 
 ascending-parts : (before : List FinalStateValue) (t : FinalStateValue) (after : List FinalStateValue) → AscendsStates (before ++ t ∷ after) →
-    AllByRecursion (λ earlier. is_below (numbers_of earlier) (numbers_of t) ≡ true) before
+    AllByRecursion (λ earlier. is_below (state_numbers earlier) (state_numbers t) ≡ true) before
 ascending-parts [] t after up = tt
-ascending-parts (s ∷ before) t after up = (each-middle (λ u. is_below (numbers_of s) (numbers_of u) ≡ true) before t after up.0, ascending-parts before t after up.1)
+ascending-parts (s ∷ before) t after up = (each-middle (λ u. is_below (state_numbers s) (state_numbers u) ≡ true) before t after up.0, ascending-parts before t after up.1)
 
 pub are-ascending : (states : List FinalStateValue) → AscendsStates states → AreAscending states
 are-ascending states up before state after parts =
-    All-from_recursion (λ earlier. is_below (numbers_of earlier) (numbers_of state) ≡ true) before (ascending-parts before state after (subst AscendsStates parts up))
+    All-from_recursion (λ earlier. is_below (state_numbers earlier) (state_numbers state) ≡ true) before (ascending-parts before state after (subst AscendsStates parts up))
 
 module _ (program : ProgramValue) (addresses : List ℕ) where
   -- the words have the width of the program's, and are those of a final state
@@ -261,14 +261,14 @@ module _ (program : ProgramValue) (addresses : List ℕ) where
     pub width : length words ≡ width_of program addresses
     pub rows : AreLastRows program.lists words
 
-  numbers-below : (w v : List ℕ) → IsLast w → IsLast v → is_below w v ≡ is_below (numbers_of (state_with program addresses w)) (numbers_of (state_with program addresses v))
+  numbers-below : (w v : List ℕ) → IsLast w → IsLast v → is_below w v ≡ is_below (state_numbers (state_with program addresses w)) (state_numbers (state_with program addresses v))
   numbers-below w v first second =
       below-numbers program.lists w v first.rows second.rows
       ∙ ap (λ xs. is_below xs (numbers_in program.lists v)) (sym (numbers-same program addresses w first.width))
-      ∙ ap (is_below (numbers_of (state_with program addresses w))) (sym (numbers-same program addresses v second.width))
+      ∙ ap (is_below (state_numbers (state_with program addresses w))) (sym (numbers-same program addresses v second.width))
 
   states-all : (w : List ℕ) (ws : List (List ℕ)) → IsLast w → AllByRecursion IsLast ws → AllByRecursion (λ v. is_below w v ≡ true) ws →
-      AllByRecursion (λ t. is_below (numbers_of (state_with program addresses w)) (numbers_of t) ≡ true) (map (state_with program addresses) ws)
+      AllByRecursion (λ t. is_below (state_numbers (state_with program addresses w)) (state_numbers t) ≡ true) (map (state_with program addresses) ws)
   states-all w [] last all below = tt
   states-all w (v ∷ ws) last all below = (sym (numbers-below w v last all.0) ∙ below.0, states-all w ws last all.1 below.1)
 

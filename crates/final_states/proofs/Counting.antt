@@ -10,9 +10,9 @@ use Rattle.tso_ops.specs.Values.{ProgramValue, list_count}
 use Rattle.unit_core.specs.declared.steps.Step.{Step}
 use Rattle.unit_core.specs.Machine.{Entry, after, first_state, lists_from, outcomes_of}
 use Rattle.unit_core.proofs.OutcomeFacts.{length-lists_from}
-use Rattle.final_states.specs.RunStates.{AreDifferent, IsReached, ReachesAtMost, ReachesMore, RunState}
+use Rattle.final_states.specs.RunStates.{AreDifferent, IsReached, ReachesAtMost, ReachesMoreStates, RunState}
 use Rattle.final_states.specs.Internal.Search.{AreOnce, AreSound, IsIn, IsSearched}
-use Rattle.final_states.specs.Internal.Stands.{HasPlaces, Stands}
+use Rattle.final_states.specs.Internal.Stands.{HasPlaces, Represents}
 use Rattle.final_states.proofs.StepMoves.{stands-same}
 use Rattle.final_states.proofs.OneToOne.{same-words}
 use Rattle.final_states.proofs.ReachedStates.{all-found}
@@ -77,7 +77,7 @@ different-once (x ∷ states) different = (
 
 -- the words stand for this state
 record IsStateOf (program : ProgramValue) (addresses words : List ℕ) (state : RunState) : Type 0 where
-  pub stands : Stands program addresses words state.machine (λ p. get_or state.answered p [])
+  pub stands : Represents program addresses words state.machine (λ p. get_or state.answered p [])
   pub count : length state.answered ≡ list_count program
 
 list-at : (first count p : ℕ) (steps : List Step) → p < count → get_or (lists_from first count steps) p [] ≡ outcomes_of (first + p) steps
@@ -94,7 +94,7 @@ list-past first (suc count) (suc p) steps past = list-past (suc first) count p s
 abbrev state_after : ProgramValue → List ℕ → List Step → RunState
 state_after program memory steps = record { machine = after (first_state memory) steps; answered = lists_from 0 (list_count program) steps }
 
-state-of : (program : ProgramValue) (addresses words memory : List ℕ) (steps : List Step) → Stands program addresses words (after (first_state memory) steps) (λ p. outcomes_of p steps) →
+state-of : (program : ProgramValue) (addresses words memory : List ℕ) (steps : List Step) → Represents program addresses words (after (first_state memory) steps) (λ p. outcomes_of p steps) →
     IsStateOf program addresses words (state_after program memory steps)
 state-of program addresses words memory steps stands = record {
   stands = stands-same program addresses words _ (λ p. outcomes_of p steps) (λ p. get_or (lists_from 0 (list_count program) steps) p []) (λ p.
@@ -212,7 +212,7 @@ states-of program addresses limits places (w ∷ words) sound =
     }
 
 pub reaches-more : (program : ProgramValue) (addresses : List ℕ) (limit : ℕ) (found : List (List ℕ)) → IsProgram program → HasPlaces program addresses → AreSound program addresses found → AreOnce found →
-    limit < length found → ReachesMore program limit
+    limit < length found → ReachesMoreStates program limit
 reaches-more program addresses limit found limits places sound once more =
     let of_found = states-of program addresses limits places found sound in (
       of_found.states,

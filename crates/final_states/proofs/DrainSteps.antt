@@ -18,7 +18,7 @@ use Rattle.unit_core.specs.declared.steps.Step.TheVariants.{Store, Drain, DrainA
 use Rattle.unit_core.specs.Machine.{Entry, IsAllowed, State, WaitsFirst, buffer_of, next, oldest_of, outcome_of, proc_of, stbars_of}
 use Rattle.unit_core.specs.Machine as machine
 use Rattle.final_states.specs.Internal.Words.{after_drain, drained, entry_of, issued_by, issued_ops, marked_ops, outcomes_with, passes, passes_all, stbars_in, waiting, waiting_at}
-use Rattle.final_states.specs.Internal.Stands.{CanHave, HasPlaces, IsRow, Stands}
+use Rattle.final_states.specs.Internal.Stands.{CanHave, HasPlaces, IsRow, Represents}
 use Rattle.final_states.proofs.Options.{and_then-some, both, cond-some}
 use Rattle.final_states.proofs.MachineMoves.{drain-state}
 use Rattle.final_states.proofs.StepMoves.{stands-move}
@@ -112,7 +112,7 @@ drain-row cells n i stbars buffer answered e row before gone =
       told = row.told ∙ sym (ap outcomes_with taken ∙ gone.outcomes);
     }
 
-module _ (program : ProgramValue) (addresses : List ℕ) (places : HasPlaces program addresses) (words : List ℕ) (s : State) (answered : ℕ → List Outcome) (stands : Stands program addresses words s answered)
+module _ (program : ProgramValue) (addresses : List ℕ) (places : HasPlaces program addresses) (words : List ℕ) (s : State) (answered : ℕ → List Outcome) (stands : Represents program addresses words s answered)
     (p : ℕ) (small : p < list_count program) where
   -- operation i of the processor, a store, waits
   record Waits (i : ℕ) (e : Entry) : Type 0 where
@@ -142,7 +142,7 @@ module _ (program : ProgramValue) (addresses : List ℕ) (places : HasPlaces pro
   in_buffer i e w = ap (λ b. slice_get b (gone_at i e w).place) (stands.rows p small).waits ∙ (gone_at i e w).read
 
   drain-stands : (i : ℕ) (e : Entry) (w : Waits i e) (new : ℕ → List Outcome) → ((q : ℕ) → new q ≡ answered q) →
-      Stands program addresses (after_drain program addresses words p i e) (machine.drained s p (gone_at i e w).place) new
+      Represents program addresses (after_drain program addresses words p i e) (machine.drained s p (gone_at i e w).place) new
   drain-stands i e w new others =
       let gone = gone_at i e w in
       let read = store_at i e w in
@@ -171,7 +171,7 @@ module _ (program : ProgramValue) (addresses : List ℕ) (places : HasPlaces pro
     pub proc : proc_of step ≡ p
     pub silent : outcome_of step ≡ None
     pub allowed : IsAllowed program.setting.order s step
-    pub left : Stands program addresses new (next s step) after
+    pub left : Represents program addresses new (next s step) after
 
   -- the buffer begins with the older entries
   buffer-parts : (i : ℕ) → buffer_of s p ≡ waiting 0 (take i (issued_ops program words p)) ++ waiting (0 + stbars_in (take i (issued_ops program words p))) (drop i (issued_ops program words p))
@@ -182,7 +182,7 @@ module _ (program : ProgramValue) (addresses : List ℕ) (places : HasPlaces pro
   first-taken i e w new others none =
       let gone = gone_at i e w in
       let place : gone.place ≡ 0 = gone.older ∙ ap length none in
-      let P : ℕ → Type 0 = λ k. Stands program addresses (after_drain program addresses words p i e) (machine.drained s p k) new in
+      let P : ℕ → Type 0 = λ k. Represents program addresses (after_drain program addresses words p i e) (machine.drained s p k) new in
       record {
         step = Drain p;
         proc = refl;
@@ -207,7 +207,7 @@ module _ (program : ProgramValue) (addresses : List ℕ) (places : HasPlaces pro
       let N : List Entry → Type 0 = AllByRecursion (λ f. (f.a == e.a) ≡ false) in
       let place : oldest_of (buffer_of s p) e.a ≡ gone.place =
       oldest-is (buffer_of s p) gone.place e e.a (in_buffer i e w) refl (subst N (sym taken) (none-of e.a e.stbars older pass)) in
-      let P : ℕ → Type 0 = λ k. Stands program addresses (after_drain program addresses words p i e) (machine.drained s p k) new in
+      let P : ℕ → Type 0 = λ k. Represents program addresses (after_drain program addresses words p i e) (machine.drained s p k) new in
       let least : (j : ℕ) (f : Entry) → slice_get (buffer_of s p) j ≡ Some f → e.stbars ≤ f.stbars = λ j f at.
       elim (get-split older later j f (ap (λ b. slice_get b j) (sym (buffer-parts i)) ∙ at)) [
         | inl before ↦ (passed e.a e.stbars f (all-get (passes Pso e.a e.stbars) older j f pass before)).1
@@ -242,7 +242,7 @@ module _ (program : ProgramValue) (addresses : List ℕ) (places : HasPlaces pro
     pub within : i < length (ops_at program p)
     pub new : List ℕ
     pub drained_to : drained program addresses words p i ≡ Some new
-    pub left : Stands program addresses new t after
+    pub left : Represents program addresses new t after
 
   waits_in : (k : ℕ) (e : Entry) → slice_get (buffer_of s p) k ≡ Some e → IsEntryAt 0 (issued_ops program words p) k e
   waits_in k e read = entry_at 0 (issued_ops program words p) k e (ap (λ b. slice_get b k) (sym (stands.rows p small).waits) ∙ read)
@@ -252,7 +252,7 @@ module _ (program : ProgramValue) (addresses : List ℕ) (places : HasPlaces pro
   found_at k e at after others pass =
       let w : Waits at.i e = record { cell = at.cell; read = at.read; entry = at.entry } in
       let place : (gone_at at.i e w).place ≡ k = (gone_at at.i e w).older ∙ sym at.older in
-      let P : ℕ → Type 0 = λ j. Stands program addresses (after_drain program addresses words p at.i e) (machine.drained s p j) after in
+      let P : ℕ → Type 0 = λ j. Represents program addresses (after_drain program addresses words p at.i e) (machine.drained s p j) after in
       record {
         i = at.i;
         within = slice_get_within (ops_at program p) at.i (OpSt e.a e.v) (store_at at.i e w);

@@ -13,7 +13,7 @@ use Rattle.unit_core.specs.Records.{AreOpsOf}
 use Rattle.unit_core.specs.Replays.{AreFirstOpsOf}
 use Rattle.final_states.specs.FinalStates.{FinalStateValue, IsFinalState, last_values, stored_addresses}
 use Rattle.final_states.specs.Internal.Search.{IsIn, IsSearched}
-use Rattle.final_states.specs.Internal.Stands.{HasPlaces, Reaches, Stands}
+use Rattle.final_states.specs.Internal.Stands.{HasPlaces, Reaches, Represents}
 use Rattle.final_states.specs.Internal.Words.{is_done, is_empty, is_final, issued_by, marked_ops, memory_start, outcomes_with, start_of, state_with, waiting, width_of}
 use Rattle.final_states.proofs.Options.{both}
 use Rattle.final_states.proofs.IssueSteps.{empty_when}
@@ -86,7 +86,7 @@ zip-values (x ∷ xs) (y ∷ ys) f same values =
     ap (λ v. pair v ∷ zip xs ys) (values 0 (omega arith)) ∙ ap (λ rest. pair (f x) ∷ rest) (zip-values xs ys f (omega (arith, same)) (λ k small. values (suc k) (omega (arith, small))))
 
 module _ (program : ProgramValue) (addresses : List ℕ) (limits : IsProgram program) (places : HasPlaces program addresses) (words memory : List ℕ) (steps : List Step)
-    (stands : Stands program addresses words (after (first_state memory) steps) (λ p. outcomes_of p steps)) (final : is_final program words ≡ true) where
+    (stands : Represents program addresses words (after (first_state memory) steps) (λ p. outcomes_of p steps)) (final : is_final program words ≡ true) where
   told-all : (p : ℕ) → p < list_count program → outcomes_of p steps ≡ outcomes_with (marked_ops program words p)
   told-all p small = (stands.rows p small).told ∙ ap outcomes_with (all-taken program addresses words stands.width p small (final-done program words final p small).all)
 

@@ -12,7 +12,7 @@ use Rattle.unit_core.specs.Machine.{IsAllowed, State, next, outcome_for, outcome
 use Rattle.unit_core.proofs.IssueFacts.{proc_of-step_of}
 use Rattle.final_states.specs.Internal.Search.{IsIn}
 use Rattle.final_states.specs.Internal.Words.{all_drained, drained, following, issued, issued_by}
-use Rattle.final_states.specs.Internal.Stands.{HasPlaces, Stands}
+use Rattle.final_states.specs.Internal.Stands.{HasPlaces, Represents}
 use Rattle.final_states.proofs.Members.{in-each, in-option, in-option-first, in-option-later, in-some, of-each, of-some}
 use Rattle.final_states.proofs.DrainSteps.{drain-complete, drain-sound}
 use Rattle.final_states.proofs.StepMoves.{stands-same}
@@ -44,9 +44,9 @@ pub record Steps (program : ProgramValue) (addresses : List ℕ) (s : State) (an
   pub step : Step
   pub proc : proc_of step < list_count program
   pub allowed : IsAllowed program.setting.order s step
-  pub left : Stands program addresses new (next s step) (and_then answered step)
+  pub left : Represents program addresses new (next s step) (and_then answered step)
 
-pub following-sound : (program : ProgramValue) (addresses words : List ℕ) (s : State) (answered : ℕ → List Outcome) → HasPlaces program addresses → Stands program addresses words s answered →
+pub following-sound : (program : ProgramValue) (addresses words : List ℕ) (s : State) (answered : ℕ → List Outcome) → HasPlaces program addresses → Represents program addresses words s answered →
     (new : List ℕ) → IsIn (following program addresses words) new → Steps program addresses s answered new
 following-sound program addresses words s answered places stands new in_it =
     let found = of-each (λ p. cons_option (issued program addresses words p) (all_drained program addresses words p)) 0 (list_count program) new in_it in
@@ -78,13 +78,13 @@ following-sound program addresses words s answered places stands new in_it =
 pub record IsFollowed (program : ProgramValue) (addresses words : List ℕ) (s : State) (answered : ℕ → List Outcome) (step : Step) : Type 0 where
   pub new : List ℕ
   pub among : IsIn (following program addresses words) new
-  pub left : Stands program addresses new (next s step) (and_then answered step)
+  pub left : Represents program addresses new (next s step) (and_then answered step)
 
 -- the outcome of the step, if it has one, is of the next operation of its processor
 abbrev pub IsOfNextOp : ProgramValue → List ℕ → Step → Type 0
 IsOfNextOp program words step = (outcome : Outcome) → outcome_of step ≡ Some outcome → slice_get (ops_at program (proc_of step)) (issued_by program words (proc_of step)) ≡ Some (op_of outcome)
 
-pub following-complete : (program : ProgramValue) (addresses words : List ℕ) (s : State) (answered : ℕ → List Outcome) → HasPlaces program addresses → Stands program addresses words s answered →
+pub following-complete : (program : ProgramValue) (addresses words : List ℕ) (s : State) (answered : ℕ → List Outcome) → HasPlaces program addresses → Represents program addresses words s answered →
     (step : Step) → proc_of step < list_count program → IsAllowed program.setting.order s step → IsOfNextOp program words step → IsFollowed program addresses words s answered step
 following-complete program addresses words s answered places stands step small allowed of_next = by (outcome_of step) refl
   where

@@ -17,7 +17,7 @@ use Rattle.unit_core.specs.Issues.{step_of}
 use Rattle.unit_core.specs.Machine.{Entry, IsAllowed, State, buffer_of, newest, next, outcome_of, proc_of, stbars_of}
 use Rattle.final_states.specs.FinalStates.{stores_to}
 use Rattle.final_states.specs.Internal.Words.{after_issue, buffer_in, entry_of, is_empty, issued, issued_by, mark_for, marked_ops, may_issue, outcome_with, outcomes_with, start_of, stbar_count, stbars_in, value_in, waiting}
-use Rattle.final_states.specs.Internal.Stands.{CanHave, HasPlaces, IsRow, Stands}
+use Rattle.final_states.specs.Internal.Stands.{CanHave, HasPlaces, IsRow, Represents}
 use Rattle.final_states.proofs.Options.{and_then-some, cond-some}
 use Rattle.final_states.proofs.MachineMoves.{IsNewMark, issue-state}
 use Rattle.final_states.proofs.StepMoves.{stands-move}
@@ -91,7 +91,7 @@ pub empty_when : (buffer : List Entry) → is_empty buffer ≡ true → buffer �
 empty_when [] empty = refl
 empty_when (e ∷ rest) empty = absurd cc
 
-module _ (program : ProgramValue) (addresses : List ℕ) (places : HasPlaces program addresses) (words : List ℕ) (s : State) (answered : ℕ → List Outcome) (stands : Stands program addresses words s answered)
+module _ (program : ProgramValue) (addresses : List ℕ) (places : HasPlaces program addresses) (words : List ℕ) (s : State) (answered : ℕ → List Outcome) (stands : Represents program addresses words s answered)
     (p : ℕ) (small : p < list_count program) where
   -- the words are as many as all operations and more
   marks_within : (i : ℕ) → i < length (ops_at program p) → i < length (drop (suc (start_of program.lists p)) words)
@@ -107,7 +107,7 @@ module _ (program : ProgramValue) (addresses : List ℕ) (places : HasPlaces pro
   -- what the operation leaves stands for what the machine leaves
   pub issue-stands : (op : Op) (new : ℕ → List Outcome) → slice_get (ops_at program p) (issued_by program words p) ≡ Some op →
       new p ≡ answered p ++ outcome_with op (mark_for program addresses words p op) ∷ [] → ((q : ℕ) → (q ≡ p → ⊥) → new q ≡ answered q) →
-      Stands program addresses (after_issue program addresses words p op) (next s (step_of p (outcome_with op (mark_for program addresses words p op)))) new
+      Represents program addresses (after_issue program addresses words p op) (next s (step_of p (outcome_with op (mark_for program addresses words p op)))) new
   issue-stands op new read own others =
       let n = issued_by program words p in
       let mark = mark_for program addresses words p op in
@@ -176,7 +176,7 @@ module _ (program : ProgramValue) (addresses : List ℕ) (places : HasPlaces pro
   pub record Issued (t : State) (after : ℕ → List Outcome) : Type 0 where
     pub new : List ℕ
     pub issued_to : issued program addresses words p ≡ Some new
-    pub left : Stands program addresses new t after
+    pub left : Represents program addresses new t after
 
   pub issue-complete : (step : Step) (op : Op) (outcome : Outcome) (after : ℕ → List Outcome) → proc_of step ≡ p → outcome_of step ≡ Some outcome → op_of outcome ≡ op →
       slice_get (ops_at program p) (issued_by program words p) ≡ Some op → (order : Order) → IsAllowed order s step → after p ≡ answered p ++ outcome ∷ [] →
@@ -186,7 +186,7 @@ module _ (program : ProgramValue) (addresses : List ℕ) (places : HasPlaces pro
       let choose : Op → Option (List ℕ) = λ o. cond (may_issue o (buffer_in program words p)) (Some (after_issue program addresses words p o)) None in
       let told : Some (outcome_with op (mark_for program addresses words p op)) ≡ Some outcome = sym (step-outcome p (outcome_with op (mark_for program addresses words p op))) ∙ ap outcome_of (sym is.same) ∙ answers in
       let told_is : outcome_with op (mark_for program addresses words p op) ≡ outcome = cc in
-      let P : Step → Type 0 = λ x. Stands program addresses (after_issue program addresses words p op) (next s x) after in
+      let P : Step → Type 0 = λ x. Represents program addresses (after_issue program addresses words p op) (next s x) after in
       record {
         new = after_issue program addresses words p op;
         issued_to = ap (option_and_then choose) read ∙ ap (λ b. cond b (Some (after_issue program addresses words p op)) None) is.may;
@@ -197,7 +197,7 @@ module _ (program : ProgramValue) (addresses : List ℕ) (places : HasPlaces pro
   pub record Issues (new : List ℕ) : Type 0 where
     pub outcome : Outcome
     pub allowed : (order : Order) → IsAllowed order s (step_of p outcome)
-    pub left : (after : ℕ → List Outcome) → after p ≡ answered p ++ outcome ∷ [] → ((q : ℕ) → (q ≡ p → ⊥) → after q ≡ answered q) → Stands program addresses new (next s (step_of p outcome)) after
+    pub left : (after : ℕ → List Outcome) → after p ≡ answered p ++ outcome ∷ [] → ((q : ℕ) → (q ≡ p → ⊥) → after q ≡ answered q) → Represents program addresses new (next s (step_of p outcome)) after
 
   pub issue-sound : (new : List ℕ) → issued program addresses words p ≡ Some new → Issues new
   issue-sound new is =

@@ -11,7 +11,7 @@ use Rattle.tso_ops.specs.Limits.{IsProgram, stored_values}
 use Rattle.tso_ops.specs.Settings.{first_value}
 use Rattle.tso_ops.specs.Values.{ProgramValue, in_file_order, ops_at}
 use Rattle.unit_core.specs.Machine.{Entry, State, buffer_of, stbars_of}
-use Rattle.final_states.specs.Internal.Stands.{CanHave, HasPlaces, IsRow, Stands}
+use Rattle.final_states.specs.Internal.Stands.{CanHave, HasPlaces, IsRow, Represents}
 use Rattle.final_states.specs.Internal.Words.{entry_of, issued_by, marked_ops, memory_start, outcome_with, outcomes_with, start_of, stbar_count, value_in, waiting}
 use Rattle.final_states.proofs.ReachedStates.{answered-count}
 use Rattle.final_states.proofs.Rows.{entry_at, is_waiting}
@@ -180,7 +180,7 @@ module _ (program : ProgramValue) (addresses : List ℕ) (limits : IsProgram pro
   value-at words slot within = ap (λ o. option_map_or (λ k. slice_index words (memory_start program + k)) o (first_value program.setting.first (slice_index addresses slot))) (places.placed slot within).0
 
   -- two lists of words that stand for one state are the same
-  pub same-words : (one two : List ℕ) (s : State) (answered : ℕ → List Outcome) → Stands program addresses one s answered → Stands program addresses two s answered → one ≡ two
+  pub same-words : (one two : List ℕ) (s : State) (answered : ℕ → List Outcome) → Represents program addresses one s answered → Represents program addresses two s answered → one ≡ two
   same-words one two s answered first second =
       rows-same program.lists one two (first.width ∙ sym second.width) (omega (arith, first.width))
       (λ p small.

@@ -16,7 +16,7 @@ use Rattle.unit_core.specs.Machine.{HasProcessors, IsFirstMemory, IsRun, IsRunFr
 use Rattle.unit_core.specs.Replays.{AreFirstOpsOf}
 use Rattle.unit_core.proofs.RunFacts.{IsRunFrom-append, after-append, first-empty}
 use Rattle.final_states.specs.Internal.Search.{IsClosed, IsIn}
-use Rattle.final_states.specs.Internal.Stands.{HasPlaces, IsRow, Reaches, Stands}
+use Rattle.final_states.specs.Internal.Stands.{HasPlaces, IsRow, Reaches, Represents}
 use Rattle.final_states.specs.Internal.Words.{first_words, following, issued_by, marked_ops, memory_start, outcome_with, outcomes_with, slot_of, start_of, value_in}
 use Rattle.final_states.proofs.Following.{IsOfNextOp, and_then, following-complete, following-sound, told_own}
 use Rattle.final_states.proofs.IssueSteps.{all-append}
@@ -63,7 +63,7 @@ same_or (suc n) zero x = refl
 same_or (suc n) (suc p) x = same_or n p x
 
 pub first-stands : (program : ProgramValue) (addresses memory : List ℕ) → IsFirstMemory program.setting.first memory →
-    Stands program addresses (first_words program addresses) (first_state memory) (λ p. [])
+    Represents program addresses (first_words program addresses) (first_state memory) (λ p. [])
 first-stands program addresses memory first =
     let start : List ℕ = replicate (memory_start program) 0 in
     let values = map (first_value program.setting.first) addresses in
@@ -118,7 +118,7 @@ past_all (ops ∷ lists) zero past = absurd (omega arith)
 past_all (ops ∷ lists) (suc p) past = past_all lists p (omega arith)
 
 -- what was answered is of the first operations
-pub first-ops : (program : ProgramValue) (addresses words : List ℕ) (s : State) (answered : ℕ → List Outcome) → Stands program addresses words s answered → (p : ℕ) →
+pub first-ops : (program : ProgramValue) (addresses words : List ℕ) (s : State) (answered : ℕ → List Outcome) → Represents program addresses words s answered → (p : ℕ) →
     (rest : List Op) × (map op_of (answered p) ++ rest ≡ ops_at program p)
 first-ops program addresses words s answered stands p =
     elim (cases_lt p (list_count program)) [
@@ -132,7 +132,7 @@ first-ops program addresses words s answered stands p =
     ]
 
 -- and they are as many as the words say
-pub answered-count : (program : ProgramValue) (addresses words : List ℕ) (s : State) (answered : ℕ → List Outcome) → Stands program addresses words s answered → (p : ℕ) → p < list_count program →
+pub answered-count : (program : ProgramValue) (addresses words : List ℕ) (s : State) (answered : ℕ → List Outcome) → Represents program addresses words s answered → (p : ℕ) → p < list_count program →
     length (answered p) ≡ issued_by program words p
 answered-count program addresses words s answered stands p small =
     let row = stands.rows p small in
@@ -162,7 +162,7 @@ next-reached program addresses words new places reached in_it =
     let s = after (first_state reached.memory) reached.steps in
     let next_step = following-sound program addresses words s (λ p. outcomes_of p reached.steps) places reached.stands new in_it in
     let step = next_step.step in
-    let P : State → Type 0 = λ t. Stands program addresses new t (λ p. outcomes_of p (reached.steps ++ step ∷ [])) in
+    let P : State → Type 0 = λ t. Represents program addresses new t (λ p. outcomes_of p (reached.steps ++ step ∷ [])) in
     let stands : P (after (first_state reached.memory) (reached.steps ++ step ∷ [])) =
     subst P (sym (after-append (first_state reached.memory) reached.steps (step ∷ [])))
     (stands-same program addresses new (next s step) _ (λ p. outcomes_of p (reached.steps ++ step ∷ [])) (outcomes-step reached.steps step) next_step.left) in
@@ -180,7 +180,7 @@ next-reached program addresses words new places reached in_it =
 pub record IsFound (program : ProgramValue) (addresses : List ℕ) (found : List (List ℕ)) (s : State) (answered : ℕ → List Outcome) : Type 0 where
   pub words : List ℕ
   pub among : IsIn found words
-  pub stands : Stands program addresses words s answered
+  pub stands : Represents program addresses words s answered
 
 next-op : (before : List Outcome) (outcome : Outcome) (rest : List Op) (ops : List Op) (n : ℕ) → length before ≡ n → map op_of (before ++ outcome ∷ []) ++ rest ≡ ops → slice_get ops n ≡ Some (op_of outcome)
 next-op [] outcome rest ops n is parts = ap (λ os. slice_get os n) (sym parts) ∙ ap (slice_get (op_of outcome ∷ rest)) (sym is)
@@ -201,7 +201,7 @@ follows-next program answered step steps follows p =
     let f = follows p in
     (f.0, ap (λ list. map op_of list ++ f.0) (sym (regroup (answered p) (outcomes_of p steps) (outcome_for p step))) ∙ f.1)
 
-of_next_op : (program : ProgramValue) (addresses words : List ℕ) (s : State) (answered : ℕ → List Outcome) (step : Step) (steps : List Step) → Stands program addresses words s answered →
+of_next_op : (program : ProgramValue) (addresses words : List ℕ) (s : State) (answered : ℕ → List Outcome) (step : Step) (steps : List Step) → Represents program addresses words s answered →
     proc_of step < list_count program → Follows program answered (step ∷ steps) → IsOfNextOp program words step
 of_next_op program addresses words s answered step steps stands small follows outcome answers =
     let p = proc_of step in

@@ -7,7 +7,7 @@ use Rattle.tso_ops.specs.declared.ops.Outcome.{Outcome}
 use Rattle.tso_ops.specs.Values.{ProgramValue, list_count}
 use Rattle.unit_core.specs.Machine.{Entry, State, buffer_of, stbars_of}
 use Rattle.final_states.specs.Internal.Words.{issued_by, marked_ops, value_in}
-use Rattle.final_states.specs.Internal.Stands.{IsRow, Stands}
+use Rattle.final_states.specs.Internal.Stands.{IsRow, Represents}
 use Rattle.final_states.proofs.WordPlaces.{KeepsRow}
 
 -- the values of memory once a value is written to an address, if one is
@@ -61,9 +61,9 @@ row-same cells cells2 n n2 buffer buffer2 stbars stbars2 answered answered2 c k 
 
 -- the words after a step stand for the state after it
 pub stands-move : (program : ProgramValue) (addresses old new : List ℕ) (s t : State) (before answered : ℕ → List Outcome) (p n : ℕ) (cells : List (Op × ℕ)) (buffer : List Entry) (stbars : ℕ)
-    (written : Option (ℕ × ℕ)) → p < list_count program → Stands program addresses old s before → StateMoves s t p buffer stbars written →
+    (written : Option (ℕ × ℕ)) → p < list_count program → Represents program addresses old s before → StateMoves s t p buffer stbars written →
     WordsMove program addresses old new p n cells written → IsRow cells n buffer stbars (answered p) → ((q : ℕ) → (q ≡ p → ⊥) → answered q ≡ before q) →
-    Stands program addresses new t answered
+    Represents program addresses new t answered
 stands-move program addresses old new s t before answered p n cells buffer stbars written small stands state words row others = record {
   width = words.width ∙ stands.width;
   memory_words = state.memory_words ∙ stands.memory_words;
@@ -89,7 +89,7 @@ stands-move program addresses old new s t before answered p n cells buffer stbar
 
 -- the same answers, otherwise given
 pub stands-same : (program : ProgramValue) (addresses words : List ℕ) (s : State) (answered others : ℕ → List Outcome) → ((q : ℕ) → others q ≡ answered q) →
-    Stands program addresses words s answered → Stands program addresses words s others
+    Represents program addresses words s answered → Represents program addresses words s others
 stands-same program addresses words s answered others same stands = record {
   width = stands.width;
   memory_words = stands.memory_words;

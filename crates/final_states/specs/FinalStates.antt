@@ -63,8 +63,8 @@ abbrev pub values_read : TraceValue → List ℕ
 values_read t = filter_map value_read (outcomes_in_file_order t)
 
 -- the values that were read, and then the last values
-abbrev pub numbers_of : FinalStateValue → List ℕ
-numbers_of state = values_read state.trace ++ map (λ entry. entry.1) state.last
+abbrev pub state_numbers : FinalStateValue → List ℕ
+state_numbers state = values_read state.trace ++ map (λ entry. entry.1) state.last
 
 -- where two lists of one length first differ, the first has the lesser number
 abbrev pub is_below : List ℕ → List ℕ → Bool
@@ -74,7 +74,7 @@ is_below _ _ = false
 -- each of the states is above those before it
 abbrev pub AreAscending : List FinalStateValue → Type 0
 AreAscending states = (before : List FinalStateValue) (state : FinalStateValue) (after : List FinalStateValue) →
-    states ≡ before ++ state ∷ after → All (λ earlier. is_below (numbers_of earlier) (numbers_of state) ≡ true) before
+    states ≡ before ++ state ∷ after → All (λ earlier. is_below (state_numbers earlier) (state_numbers state) ≡ true) before
 
 -- These are the final states of the program, all, each once, in ascending order.
 pub record AreFinalStatesOf (program : ProgramValue) (states : List FinalStateValue) : Type 0 where

@@ -32,8 +32,8 @@ pub record AreReached (program : ProgramValue) (states : List RunState) : Type 0
   pub different : AreDifferent states
 
 -- runs of the program reach more states than this
-abbrev pub ReachesMore : ProgramValue → ℕ → Type 0
-ReachesMore program limit = (states : List RunState) × AreReached program states × (limit < length states)
+abbrev pub ReachesMoreStates : ProgramValue → ℕ → Type 0
+ReachesMoreStates program limit = (states : List RunState) × AreReached program states × (limit < length states)
 
 -- runs of the program reach no more states than this
 abbrev pub ReachesAtMost : ProgramValue → ℕ → Type 0

@@ -5,7 +5,7 @@ ghost use Rattle.std.specs.List.{flat_map, zip};
 ghost use Rattle.tso_ops.specs.Limits.{IsTrace};
 ghost use Rattle.tso_ops.specs.Values.{list_count, outcomes_in_file_order, rows, ReadFits};
 ghost use Rattle.final_states.specs.FinalStates.{AreFinalStatesOf, state_of};
-ghost use Rattle.final_states.specs.RunStates.{ReachesAtMost, ReachesMore};
+ghost use Rattle.final_states.specs.RunStates.{ReachesAtMost, ReachesMoreStates};
 ghost use Rattle.final_states.specs.Internal.Plans.{HaveWidth, IsPlanOf};
 ghost use Rattle.final_states.specs.Internal.Words.{is_done, is_final, outcome_with, outcomes_with, state_with};
 
@@ -31,7 +31,7 @@ pub fn final_states(
     ensures found { IfOk result (λ states. AreFinalStatesOf program.now (map (state_of program.now) states.items)) }
     ensures traces { IfOk result (λ states. All (λ state. IsTrace (state_of program.now state).trace) states.items) }
     ensures few { OnOk result (ReachesAtMost program.now limit) }
-    ensures refused { IfErr result (λ why. why ≡ StatesFault.TooManyStates → ReachesMore program.now limit) }
+    ensures refused { IfErr result (λ why. why ≡ StatesFault.TooManyStates → ReachesMoreStates program.now limit) }
 {
     let plan = make_plan(alloc, program)?;
     let reached = reached_words(alloc, program, &plan, limit)?;

@@ -2,4 +2,5 @@ pub mod CutFacts
 pub mod LeastFacts
 pub mod NumberFacts
 pub mod PrintFacts
+pub mod ReadingFacts
 pub mod SplitFacts

@@ -1,11 +1,12 @@
 -- Lemmas on joined parts: a text that is joined of parts without the byte between them is cut into these parts.
-use Rattle.std.proofs.Common.{◌≡◌, ℕ, ◌<◌, ◌/◌, ◌%◌, zero, suc, cond, ltb, Bool, true, false, eqb, List, [], ◌∷◌, ◌++◌, refl, ap, ◌∙◌, arith}
+use Rattle.std.proofs.Common.{◌≡◌, ℕ, ◌<◌, ◌/◌, ◌%◌, zero, suc, cond, ltb, Bool, true, false, eqb, List, [], ◌∷◌, ◌++◌, refl, ap, sym, ◌∙◌, subst, arith, inl, inr, ⊎_elim, ◌⊎◌, append_assoc}
 use Rattle.std.specs.Char.{is_ascii_digit}
 use Rattle.std.specs.Fmt.{decimal, digits, digits_onto, digit_glyph}
 use Rattle.std.specs.List.{list_any, list_all, slice_split, onto_first, join_with_byte}
 use Rattle.std.proofs.lemmas.Bool.{or_parts}
 use Rattle.std.proofs.lemmas.Bool.Decides.{nat_tests}
 use Rattle.std.proofs.lemmas.List.Splits.{slice_split-cons_yes, slice_split-cons_no}
+use Rattle.line_text.specs.Lines.{line_text, parts_of, tokens_of}
 use Rattle.line_text.proofs.NumberFacts.{and_parts}
 
 -- the byte stands among these
@@ -92,3 +93,34 @@ decimal_digits n = digits_onto-digits 64 n [] refl
 -- and so none of the bytes below the digits
 pub decimal_without : (c n : ℕ) → c < 48 → has_byte c (decimal n) ≡ false
 decimal_without c n low = digits_without c (decimal n) low (decimal_digits n)
+
+-- ---- lines of tokens
+
+-- a byte that parts lines or tokens
+pub IsBreak : ℕ → Type 0
+IsBreak c = (c ≡ 10) ⊎ (c ≡ 32)
+
+by_break : (P : ℕ → Type 0) (c : ℕ) → IsBreak c → P 10 → P 32 → P c
+unfolding IsBreak
+by_break P c is ten space = ⊎_elim (λ (e : c ≡ 10). subst P (sym e) ten) (λ (e : c ≡ 32). subst P (sym e) space) is
+
+pub word_without : (c : ℕ) (word : List ℕ) → IsBreak c → has_byte 10 word ≡ false → has_byte 32 word ≡ false → has_byte c word ≡ false
+word_without c word is ten space = by_break (λ d. has_byte d word ≡ false) c is ten space
+
+pub number_without : (c n : ℕ) → IsBreak c → has_byte c (decimal n) ≡ false
+number_without c n is = decimal_without c n (by_break (λ d. d < 48) c is (omega arith) (omega arith))
+
+-- a line of these tokens is cut into just them, and ends at its line end
+pub record IsCut (tokens : List (List ℕ)) : Type 0 where
+  pub cut : tokens_of (join_with_byte 32 tokens) ≡ tokens
+  pub parts : (rest : List ℕ) → parts_of (line_text tokens ++ rest) ≡ join_with_byte 32 tokens ∷ parts_of rest
+
+pub cut_without : (first : List ℕ) (others : List (List ℕ)) → ((c : ℕ) → IsBreak c → has_byte_in c (first ∷ others) ≡ false) → IsCut (first ∷ others)
+unfolding tokens_of parts_of IsBreak
+cut_without first others none =
+    let whole = join_with_byte 32 (first ∷ others) in
+    let no_end : has_byte 10 whole ≡ false = joined_without 10 32 (first ∷ others) refl (none 10 (inl refl)) in
+    record {
+      cut = split_joined 32 first others (none 32 (inr refl));
+      parts = λ rest. ap (slice_split (λ b. eqb b 10)) (append_assoc whole (10 ∷ []) rest) ∙ split_part 10 whole rest no_end;
+    }

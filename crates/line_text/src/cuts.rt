@@ -1,4 +1,4 @@
-ghost use Rattle.std.specs.Prelude.{◌≡◌, [], ◌∷◌, ◌==◌, ◌<◌, length, IfSome, IfNone, position};
+ghost use Rattle.std.specs.Prelude.{◌≡◌, [], ◌∷◌, ◌==◌, ◌<◌, length, IfOk, IfErr, IfSome, IfNone, position};
 ghost use Rattle.std.specs.List.{slice_split};
 ghost use Rattle.line_text.specs.Lines.{parts_of, tokens_of, tokens_after};
 ghost use Rattle.line_text.specs.Internal.Cuts.{parts_after};
@@ -29,6 +29,18 @@ pub fn next_token(line: &[u8]) -> (&[u8], Option<&[u8]>)
     ensures shorter { IfSome result.1 (λ rest. length rest.now < length line.now) }
 {
     cut(line, SPACE)
+}
+
+/// The value of a text, where nothing is left after it; else this refusal of what is left.
+pub fn at_end<V: Drop, E: Drop>(value: V, left: &[u8], refusal: E) -> Result<V, E>
+    ensures found { IfOk result (λ v. (v ≡ value) × (length left.now ≡ 0)) }
+    ensures refused { IfErr result (λ e. (e ≡ refusal) × (length left.now ≡ 0 → ⊥)) }
+{
+    if left.is_empty() {
+        Ok(value)
+    } else {
+        Err(refusal)
+    }
 }
 
 /// Cuts at the first of these bytes: what stands before it, and what follows it, if there is one.

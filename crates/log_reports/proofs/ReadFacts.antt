@@ -15,8 +15,8 @@ use Rattle.request_options.specs.declared.logs.LogOptions.{LogOptions}
 use Rattle.log_reports.specs.declared.reports.LogReport.{LogReport}
 use Rattle.trace_reports.specs.declared.answers.Answer.{Answer}
 use Rattle.trace_reports.specs.declared.answers.Answer.TheVariants.{Clear, Refused, Violation}
-use Rattle.log_reports.specs.LogRefusals.{log_refusal_text}
-use Rattle.log_reports.specs.LogReports.{IsLogReport, IsLogReportOfReader, IsReportOf}
+use Rattle.trace_reports.specs.Renderings.{RendersRefusal}
+use Rattle.log_reports.specs.LogReports.{IsLogReport, IsLogReportOfReader, IsReportOf, SaidOfLog}
 use Rattle.log_reports.proofs.ViolationFacts.{report_violation, report_written}
 
 -- ---- what is read
@@ -50,26 +50,33 @@ of_reader : (Is : List ℕ → Type 0) (remaining : Option (List ℕ)) (bytes : 
 of_reader Is None bytes all holds = record { bytes = bytes; of_read = holds; of_all = tt }
 of_reader Is (Some whole) bytes all holds = record { bytes = bytes; of_read = holds; of_all = subst Is all holds }
 
-module _ (options : LogOptions) (remaining : Option (List ℕ)) (text bytes : List ℕ) (all : IfSome remaining (λ l. bytes ≡ l)) (same : text ≡ bytes) where
+module _ (said : SaidOfLog) (refused : RendersRefusal) (options : LogOptions) (remaining : Option (List ℕ)) (text bytes : List ℕ) (all : IfSome remaining (λ l. bytes ≡ l)) (same : text ≡ bytes) where
   -- the report on a log that was read
-  pub log_said : (log : NumberedLog) (outcome : Result LogReport Fault) → SpellsLog text log → IsEndedAsNeeded options.needs_end text → IfOk outcome (λ r. IsReportOf log options (string_bytes r.text) r.verdict) →
-      IfOk outcome (λ r. IsLogReportOfReader options remaining (string_bytes r.text) r.verdict)
-  log_said log (Ok r) spelled ended is = of_reader (λ bytes. IsLogReport options bytes (string_bytes r.text) r.verdict) remaining bytes all (inl (log, subst (λ (l : List ℕ). SpellsLog l log) same spelled, subst (IsEndedAsNeeded options.needs_end) same ended, is))
+  pub log_said : (log : NumberedLog) (outcome : Result LogReport Fault) → SpellsLog text log → IsEndedAsNeeded options.needs_end text → IfOk outcome (λ r. IsReportOf said log options (string_bytes r.text) r.verdict) →
+      IfOk outcome (λ r. IsLogReportOfReader said refused options remaining (string_bytes r.text) r.verdict)
+  log_said log (Ok r) spelled ended is = of_reader (λ bytes. IsLogReport said refused options bytes (string_bytes r.text) r.verdict) remaining bytes all (inl (log, subst (λ (l : List ℕ). SpellsLog l log) same spelled, subst (IsEndedAsNeeded options.needs_end) same ended, is))
   log_said log (Err fault) spelled ended is = tt
 
   -- the refusal of a text
-  pub refusal_said : (line : ℕ) (why : Why) (said : List ℕ) (verdict : Answer) → IsLogRefusal options.needs_end text line why → said ≡ log_refusal_text options.form text line why → verdict ≡ Refused → IsLogReportOfReader options remaining said verdict
-  refusal_said line why said verdict refused says gives =
-      of_reader (λ bytes. IsLogReport options bytes said verdict) remaining bytes all (inr (record { line = line; why = why; refused = subst (λ (l : List ℕ). IsLogRefusal options.needs_end l line why) same refused; says = subst (λ (l : List ℕ). said ≡ log_refusal_text options.form l line why) same says; gives = gives }))
+  pub refusal_said : (line : ℕ) (why : Why) (told : List ℕ) (verdict : Answer) → IsLogRefusal options.needs_end text line why → told ≡ refused text line why → verdict ≡ Refused → IsLogReportOfReader said refused options remaining told verdict
+  refusal_said line why told verdict is says gives =
+      of_reader (λ bytes. IsLogReport said refused options bytes told verdict) remaining bytes all (inr (record {
+        line = line;
+        why = why;
+        refused = subst (λ (l : List ℕ). IsLogRefusal options.needs_end l line why) same is;
+        says = subst (λ (l : List ℕ). told ≡ refused l line why) same says;
+        gives = gives;
+      }))
 
--- a log on which the report is a violation has no order
-pub reader_violation : (options : LogOptions) (remaining : Option (List ℕ)) (text : List ℕ) (verdict : Answer) → IsLogReportOfReader options remaining text verdict → verdict ≡ Violation →
-    IfSome remaining (λ all. (log : NumberedLog) → SpellsLog all log → IsConsistent (log_operations log) → ⊥)
-reader_violation options None text verdict is gives = tt
-reader_violation options (Some all) text verdict is gives = λ log spelled. report_violation options all text (subst (IsLogReport options all text) gives is.of_all) log spelled
+module _ (said : SaidOfLog) (refused : RendersRefusal) (options : LogOptions) where
+  -- a log on which the report is a violation has no order
+  pub reader_violation : (remaining : Option (List ℕ)) (text : List ℕ) (verdict : Answer) → IsLogReportOfReader said refused options remaining text verdict → verdict ≡ Violation →
+      IfSome remaining (λ all. (log : NumberedLog) → SpellsLog all log → IsConsistent (log_operations log) → ⊥)
+  reader_violation None text verdict is gives = tt
+  reader_violation (Some all) text verdict is gives = λ log spelled. report_violation said refused options all text (subst (IsLogReport said refused options all text) gives is.of_all) log spelled
 
--- and of one on which it is Clear each load read what something wrote
-pub reader_written : (options : LogOptions) (remaining : Option (List ℕ)) (text : List ℕ) (verdict : Answer) → IsLogReportOfReader options remaining text verdict → verdict ≡ Clear →
-    IfSome remaining (λ all. (log : NumberedLog) → SpellsLog all log → (l : ℕ) → IsUnwritten (log_operations log) l → ⊥)
-reader_written options None text verdict is gives = tt
-reader_written options (Some all) text verdict is gives = λ log spelled. report_written options all text (subst (IsLogReport options all text) gives is.of_all) log spelled
+  -- and of one on which it is Clear each load read what something wrote
+  pub reader_written : (remaining : Option (List ℕ)) (text : List ℕ) (verdict : Answer) → IsLogReportOfReader said refused options remaining text verdict → verdict ≡ Clear →
+      IfSome remaining (λ all. (log : NumberedLog) → SpellsLog all log → (l : ℕ) → IsUnwritten (log_operations log) l → ⊥)
+  reader_written None text verdict is gives = tt
+  reader_written (Some all) text verdict is gives = λ log spelled. report_written said refused options all text (subst (IsLogReport said refused options all text) gives is.of_all) log spelled

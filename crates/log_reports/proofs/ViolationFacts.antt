@@ -1,19 +1,12 @@
 -- A log of which a violation is listed has no order of its model.
 use Rattle.std.proofs.Common.{◌≡◌, ◌&&◌, ◌||◌, ⊎_elim, ℕ, Bool, List, not, refl, true, false, [], ◌∷◌, arith, cond, sym, subst}
-use Rattle.std.specs.Prelude.{MatchOption, Option, None, Some, is_some}
 use Rattle.std.specs.List.{All}
-use Rattle.tso_cert.specs.declared.steps.Certificate.{Certificate}
-use Rattle.tso_model.specs.Certs.{IsCertificateOf}
-use Rattle.trace_reports.specs.declared.findings.Finding.{Finding}
-use Rattle.trace_reports.specs.Findings.{IsFinding}
 use Rattle.line_text.specs.Lines.{is_empty}
 use Rattle.tso_ops.specs.Values.{TraceValue}
 use Rattle.tso_ops.specs.Events.{IsUnwritten}
 use Rattle.tso_model.specs.Axioms.{IsConsistent}
 use Rattle.trace_reports.specs.Violations.{IsViolation}
-use Rattle.tso_model.proofs.CertificateCause.{certificate_cause}
-use Rattle.tso_model.proofs.EdgesForward.{all_written, no_derived_cycle}
-use Rattle.tso_ops.proofs.NumberFacts.{own_values}
+use Rattle.trace_judging.proofs.ViolationFacts.{violation_no_order}
 use Rattle.log_text.specs.LogTexts.{SpellsLog}
 use Rattle.log_text.specs.LogValues.{NumberedLog, log_operations}
 use Rattle.log_text.proofs.TextFacts.{one_log}
@@ -21,34 +14,25 @@ use Rattle.log_selections.specs.declared.shown.Shown.{Shown}
 use Rattle.log_selections.specs.Shown.{IsSelected, log_of_shown}
 use Rattle.log_selections.proofs.SelectionOrders.{selection_violation}
 use Rattle.log_selections.proofs.UnwrittenFacts.{unwritten_no_order}
-use Rattle.log_reports.specs.declared.findings.LogFindings.{LogFindings}
 use Rattle.log_reports.specs.declared.findings.LogViolation.{LogViolation}
 use Rattle.log_reports.specs.declared.findings.LogViolation.TheVariants.{Selection, Unwritten}
-use Rattle.log_reports.specs.declared.counts.LogCounts.{LogCounts}
+use Rattle.log_reports.specs.declared.forms.LogFound.{LogFound}
 use Rattle.request_options.specs.declared.logs.LogOptions.{LogOptions}
 use Rattle.trace_reports.specs.declared.answers.Answer.TheVariants.{Clear, Undecided, Violation, Refused}
-use Rattle.log_reports.specs.Findings.{AreFindings, AreWrittenIn, IsListed, has_unjudged}
-use Rattle.log_reports.specs.LogCounts.{counts_of, is_nothing_judged, is_too_unknown}
-use Rattle.log_reports.specs.LogReports.{IsLogReport, is_all_judged, verdict_of}
+use Rattle.log_reports.specs.Findings.{AreFindings, AreWrittenIn, IsListed}
+use Rattle.trace_reports.specs.Renderings.{RendersRefusal}
+use Rattle.log_reports.specs.LogCounts.{is_nothing_judged, is_too_unknown}
+use Rattle.log_reports.specs.LogReports.{IsLogReport, SaidOfLog, found_in, is_all_judged, verdict_of}
 
 module _ (log : NumberedLog) (shown : List Shown) (t : TraceValue) (selected : IsSelected log shown t) (violation : IsViolation t) where
   no_order : IsConsistent t → ⊥
-  no_order consistent =
-      ⊎_elim (λ unwritten. all_written t consistent.0 consistent.1 unwritten.0 unwritten.1) (λ cycle. no_derived_cycle t (own_values t selected.kept) consistent.0 consistent.1 cycle) violation
+  no_order = violation_no_order t selected.kept violation
 
   pub lines_violation : IsConsistent (log_operations (log_of_shown log shown)) → ⊥
   lines_violation = selection_violation (log_operations (log_of_shown log shown)) t selected.of_lines no_order
 
   pub selected_violation : IsConsistent (log_operations log) → ⊥
   selected_violation = selection_violation (log_operations log) t selected.of_log no_order
-
--- what has a certificate is a violation
-pub certified : (t : TraceValue) (finding : Finding) → IsFinding t finding → is_some finding.certificate ≡ true → IsViolation t
-certified t finding found some = by_certificate finding.certificate found.certificate some
-  where
-    by_certificate : (c : Option Certificate) → MatchOption c (IsViolation t → ⊥) (IsCertificateOf t) → is_some c ≡ true → IsViolation t
-    by_certificate None nothing some = absurd cc
-    by_certificate (Some c) is some = certificate_cause t c is
 
 pub log_violation : (log : NumberedLog) (violation : LogViolation) → IsListed log violation → IsConsistent (log_operations log) → ⊥
 log_violation log (Selection selected finding) (is, violation, found) = selected_violation log selected.shown.items selected.trace is violation
@@ -60,8 +44,8 @@ listed log [] true is all = absurd cc
 listed log [] false is all = absurd cc
 listed log (violation ∷ violations) all_judged is all = log_violation log violation (all 0 violation (omega arith))
 
-pub found_violation : (log : NumberedLog) (options : LogOptions) (counts : LogCounts) (findings : LogFindings) → AreFindings log findings → verdict_of options counts findings ≡ Violation → IsConsistent (log_operations log) → ⊥
-found_violation log options counts findings found is = listed log findings.violations.items (is_all_judged options counts findings) is found.listed
+pub found_violation : (log : NumberedLog) (found : LogFound) → AreFindings log found.findings → verdict_of found ≡ Violation → IsConsistent (log_operations log) → ⊥
+found_violation log found are is = listed log found.findings.violations.items (is_all_judged found) is are.listed
 
 -- where the verdict is Clear, nothing is listed, and all was judged
 none_listed : (violations : List LogViolation) (all_judged : Bool) → cond (is_empty violations) (cond all_judged Clear Undecided) Violation ≡ Clear → (violations ≡ []) × (all_judged ≡ true)
@@ -76,25 +60,26 @@ all_judged_written true unjudged true nothing many is = absurd cc
 all_judged_written false true true nothing many is = absurd cc
 all_judged_written false false true nothing many is = absurd cc
 
-found_none : (log : NumberedLog) (options : LogOptions) (counts : LogCounts) (findings : LogFindings) → AreWrittenIn log findings → verdict_of options counts findings ≡ Clear → (l : ℕ) → IsUnwritten (log_operations log) l → ⊥
-found_none log options counts findings written is =
-    let (none, all_judged) = none_listed findings.violations.items (is_all_judged options counts findings) is in
-    written none (all_judged_written findings.is_early (not (is_empty findings.unjudged.items)) findings.has_unlisted (is_nothing_judged counts) (is_too_unknown options.max_unknown counts) all_judged)
+found_none : (log : NumberedLog) (found : LogFound) → AreWrittenIn log found.findings → verdict_of found ≡ Clear → (l : ℕ) → IsUnwritten (log_operations log) l → ⊥
+found_none log found written is =
+    let findings = found.findings in
+    let (none, all_judged) = none_listed findings.violations.items (is_all_judged found) is in
+    written none (all_judged_written findings.is_early (not (is_empty findings.unjudged.items)) findings.has_unlisted (is_nothing_judged found.counts) (is_too_unknown found.options.max_unknown found.counts) all_judged)
 
-pub report_written : (options : LogOptions) (bytes text : List ℕ) → IsLogReport options bytes text Clear → (log : NumberedLog) → SpellsLog bytes log → (l : ℕ) → IsUnwritten (log_operations log) l → ⊥
-report_written options bytes text is log spelled =
+pub report_written : (said : SaidOfLog) (refused : RendersRefusal) (options : LogOptions) (bytes text : List ℕ) → IsLogReport said refused options bytes text Clear → (log : NumberedLog) → SpellsLog bytes log → (l : ℕ) → IsUnwritten (log_operations log) l → ⊥
+report_written said refused options bytes text is log spelled =
     ⊎_elim
-    (λ of_log. subst (λ (other : NumberedLog). (l : ℕ) → IsUnwritten (log_operations other) l → ⊥) (one_log bytes of_log.0 log of_log.1 spelled) (found_none of_log.0 options (counts_of of_log.0 of_log.3.unknown) of_log.3.findings of_log.3.written (sym of_log.3.gives)))
+    (λ of_log. subst (λ (other : NumberedLog). (l : ℕ) → IsUnwritten (log_operations other) l → ⊥) (one_log bytes of_log.0 log of_log.1 spelled) (found_none of_log.0 (found_in of_log.0 options of_log.3.unknown of_log.3.findings) of_log.3.written (sym of_log.3.gives)))
     (λ refusal. absurd (differ refusal.gives))
     is
   where
     differ : Clear ≡ Refused → ⊥
     differ same = cc
 
-pub report_violation : (options : LogOptions) (bytes text : List ℕ) → IsLogReport options bytes text Violation → (log : NumberedLog) → SpellsLog bytes log → IsConsistent (log_operations log) → ⊥
-report_violation options bytes text is log spelled =
+pub report_violation : (said : SaidOfLog) (refused : RendersRefusal) (options : LogOptions) (bytes text : List ℕ) → IsLogReport said refused options bytes text Violation → (log : NumberedLog) → SpellsLog bytes log → IsConsistent (log_operations log) → ⊥
+report_violation said refused options bytes text is log spelled =
     ⊎_elim
-    (λ of_log. subst (λ (other : NumberedLog). IsConsistent (log_operations other) → ⊥) (one_log bytes of_log.0 log of_log.1 spelled) (found_violation of_log.0 options (counts_of of_log.0 of_log.3.unknown) of_log.3.findings of_log.3.found (sym of_log.3.gives)))
+    (λ of_log. subst (λ (other : NumberedLog). IsConsistent (log_operations other) → ⊥) (one_log bytes of_log.0 log of_log.1 spelled) (found_violation of_log.0 (found_in of_log.0 options of_log.3.unknown of_log.3.findings) of_log.3.found (sym of_log.3.gives)))
     (λ refusal. absurd (differ refusal.gives))
     is
   where

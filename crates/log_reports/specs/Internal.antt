@@ -1,2 +1,3 @@
 -- How far private functions have come. No public contract uses these definitions.
 pub mod NamedEvents
+pub mod ViolationTexts

@@ -1,13 +1,11 @@
--- What is printed of a refused log: the line of its refusal, and where explanations are asked for the line of the log that decided, and the rule that it
--- breaks.
-use Rattle.std.specs.Prelude.{ℕ, List, [], ◌++◌, codes}
+-- What explains that a log is refused: the line of its refusal, the line of the log that decided, and the rule that it breaks.
+use Rattle.std.specs.Prelude.{◌≡◌, ℕ, List, [], ◌++◌, codes, refl}
 use Rattle.tso_text.specs.declared.faults.Why.{Why}
 use Rattle.tso_text.specs.declared.faults.Why.TheVariants.{BadHeader, BadLine, BadNumber, BeforeProc, TooManyProcessors, TooManyEvents, AddressRange, ZeroValue, RepeatedValue, MissingEnd, AfterEnd, TooLong, ProcessorRange, OutOfMemory, BadModel, InitOrder}
 use Rattle.trace_reports.specs.RefusalLines.{refusal_text}
-use Rattle.trace_explanation.specs.Refusals.{line_shown}
+use Rattle.trace_reports.specs.Renderings.{RendersRefusal}
+use Rattle.trace_explanation.specs.Refusals.{numbered_line}
 use Rattle.log_reports.specs.declared.refusal_sentences.TheConstants.{BAD_LINE, BAD_NUMBER, BAD_MODEL, INIT_ORDER, PROCESSOR_RANGE}
-use Rattle.request_options.specs.declared.logs.LogForm.{LogForm}
-use Rattle.request_options.specs.declared.logs.LogForm.TheVariants.{Lines, Explained, Traces}
 
 -- the rule that a log with this refusal breaks: a log has no other refusals than the first five
 unfoldable pub log_sentence : Why → List ℕ
@@ -30,14 +28,13 @@ log_sentence OutOfMemory = []
 
 -- what is said of a log that is refused at this line
 unfoldable pub log_refusal_explanation : List ℕ → ℕ → Why → List ℕ
-log_refusal_explanation text line why = codes "\n" ++ line_shown text line ++ log_sentence why
+log_refusal_explanation text line why = codes "\n" ++ numbered_line text line ++ log_sentence why
 
--- the same, where explanations are asked for
-abbrev pub said_of_refusal : LogForm → List ℕ → ℕ → Why → List ℕ
-said_of_refusal Lines text line why = []
-said_of_refusal Explained text line why = log_refusal_explanation text line why
-said_of_refusal Traces text line why = []
+-- the line of the refusal, and then that
+abbrev pub log_refusal_explained : RendersRefusal
+log_refusal_explained text line why = refusal_text line why ++ log_refusal_explanation text line why
 
--- what is printed in this form of a log that is refused at this line
-abbrev pub log_refusal_text : LogForm → List ℕ → ℕ → Why → List ℕ
-log_refusal_text form text line why = refusal_text line why ++ said_of_refusal form text line why
+-- a refusal of the text as a whole shows no line
+pub log_refusal_whole : (a b : List ℕ) (why : Why) → log_refusal_explained a 0 why ≡ log_refusal_explained b 0 why
+unfolding log_refusal_explanation numbered_line
+log_refusal_whole a b why = refl

@@ -7,26 +7,34 @@ use Rattle.log_text.specs.LogTexts.{IsEndedAsNeeded, IsLogRefusal, SpellsLog}
 use Rattle.log_text.specs.LogValues.{NumberedLog}
 use Rattle.log_selections.specs.Sources.{IsAmbiguousCount}
 use Rattle.log_reports.specs.declared.findings.LogFindings.{LogFindings}
-use Rattle.log_reports.specs.declared.counts.LogCounts.{LogCounts}
+use Rattle.log_reports.specs.declared.forms.LogFound.{LogFound}
 use Rattle.request_options.specs.declared.logs.LogOptions.{LogOptions}
+use Rattle.trace_reports.specs.Renderings.{RendersRefusal}
 use Rattle.trace_reports.specs.declared.answers.Answer.{Answer}
 use Rattle.trace_reports.specs.declared.answers.Answer.TheVariants.{Clear, Undecided, Violation, Refused}
 use Rattle.log_reports.specs.Findings.{AreFindings, AreWithin, AreWrittenIn, has_unjudged}
 use Rattle.log_reports.specs.LogCounts.{counts_of, is_nothing_judged, is_too_unknown}
-use Rattle.log_reports.specs.LogRefusals.{log_refusal_text}
-use Rattle.log_reports.specs.LogTexts.{text_in}
 
 -- The whole log was searched, what was found could be judged, some load was, and no larger share of the loads is unknown than allowed.
-abbrev pub is_all_judged : LogOptions → LogCounts → LogFindings → Bool
-is_all_judged options counts findings =
-    not findings.is_early && not (has_unjudged findings) && not (is_nothing_judged counts) && not (is_too_unknown options.max_unknown counts)
+abbrev pub is_all_judged : LogFound → Bool
+is_all_judged found =
+    not found.findings.is_early && not (has_unjudged found.findings) && not (is_nothing_judged found.counts)
+    && not (is_too_unknown found.options.max_unknown found.counts)
 
 -- a violation where one is listed
-abbrev pub verdict_of : LogOptions → LogCounts → LogFindings → Answer
-verdict_of options counts findings = cond (is_empty findings.violations.items) (cond (is_all_judged options counts findings) Clear Undecided) Violation
+abbrev pub verdict_of : LogFound → Answer
+verdict_of found = cond (is_empty found.findings.violations.items) (cond (is_all_judged found) Clear Undecided) Violation
+
+-- what is said of a log by what was found in it
+abbrev pub SaidOfLog : Type 0
+SaidOfLog = NumberedLog → LogFound → List ℕ
+
+-- what was found in the log, of the loads of which so many have a source that the values don't tell
+abbrev pub found_in : NumberedLog → LogOptions → ℕ → LogFindings → LogFound
+found_in log options unknown findings = record { options = options; counts = counts_of log unknown; findings = findings }
 
 -- The text says what was found in the log.
-pub record IsReportOf (log : NumberedLog) (options : LogOptions) (text : List ℕ) (verdict : Answer) : Type 0 where
+pub record IsReportOf (said : SaidOfLog) (log : NumberedLog) (options : LogOptions) (text : List ℕ) (verdict : Answer) : Type 0 where
   pub findings : LogFindings
   pub found : AreFindings log findings
   pub few : AreWithin options.most findings
@@ -34,21 +42,23 @@ pub record IsReportOf (log : NumberedLog) (options : LogOptions) (text : List �
   -- how many loads have a source that the values don't tell
   pub unknown : ℕ
   pub counted : IsAmbiguousCount log unknown
-  pub says : text ≡ text_in options (counts_of log unknown) log findings
-  pub gives : verdict ≡ verdict_of options (counts_of log unknown) findings
+  pub says : text ≡ said log (found_in log options unknown findings)
+  pub gives : verdict ≡ verdict_of (found_in log options unknown findings)
 
--- The text is the refusal of these bytes in the form that is asked for: they are no log, or lack the line `end` that is needed.
-pub record IsRefusalOf (options : LogOptions) (bytes text : List ℕ) (verdict : Answer) : Type 0 where
+-- The text is what is said of the refusal of these bytes: they are no log, or lack the line `end` that is needed.
+pub record IsRefusalOf (said : RendersRefusal) (options : LogOptions) (bytes text : List ℕ) (verdict : Answer) : Type 0 where
   pub line : ℕ
   pub why : Why
   pub refused : IsLogRefusal options.needs_end bytes line why
-  pub says : text ≡ log_refusal_text options.form bytes line why
+  pub says : text ≡ said bytes line why
   pub gives : verdict ≡ Refused
 
 -- The text is a report on the log that these bytes spell, or refuses them.
-abbrev pub IsLogReport : LogOptions → List ℕ → List ℕ → Answer → Type 0
-IsLogReport options bytes text verdict = ((log : NumberedLog) × SpellsLog bytes log × IsEndedAsNeeded options.needs_end bytes × IsReportOf log options text verdict) ⊎ IsRefusalOf options bytes text verdict
+abbrev pub IsLogReport : SaidOfLog → RendersRefusal → LogOptions → List ℕ → List ℕ → Answer → Type 0
+IsLogReport said refused options bytes text verdict =
+    ((log : NumberedLog) × SpellsLog bytes log × IsEndedAsNeeded options.needs_end bytes × IsReportOf said log options text verdict)
+    ⊎ IsRefusalOf refused options bytes text verdict
 
 -- the same of the bytes of a reader
-abbrev pub IsLogReportOfReader : LogOptions → Option (List ℕ) → List ℕ → Answer → Type 0
-IsLogReportOfReader options remaining text verdict = ReadsAs remaining (λ bytes. IsLogReport options bytes text verdict)
+abbrev pub IsLogReportOfReader : SaidOfLog → RendersRefusal → LogOptions → Option (List ℕ) → List ℕ → Answer → Type 0
+IsLogReportOfReader said refused options remaining text verdict = ReadsAs remaining (λ bytes. IsLogReport said refused options bytes text verdict)

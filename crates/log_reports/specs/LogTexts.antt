@@ -1,31 +1,28 @@
--- What is printed of a log.
-use Rattle.std.specs.Prelude.{ℕ, Bool, not, List, [], ◌∷◌, ◌++◌, length, ◌+◌, Option, cond, codes}
+-- What is said of a log in each form: by the lines of its violations, with explanations after them, or by the texts of their traces.
+use Rattle.std.specs.Prelude.{ℕ, Bool, List, [], ◌∷◌, ◌++◌, length, ◌+◌, cond, codes}
 use Rattle.std.specs.List.{flat_map}
 use Rattle.std.specs.Option.{option_map_or}
 use Rattle.std.specs.Fmt.{decimal}
 use Rattle.line_text.specs.Lines.{is_empty}
 use Rattle.tso_ops.specs.declared.settings.Order.{Order}
-use Rattle.tso_ops.specs.Values.{TraceValue}
-use Rattle.tso_cert.specs.declared.steps.Certificate.{Certificate}
 use Rattle.tso_text.specs.Printed.{trace_text}
-use Rattle.log_text.specs.LogValues.{NumberedLog}
-use Rattle.log_selections.specs.declared.shown.Shown.{Shown}
+use Rattle.log_selections.specs.declared.selecting.Selected.{Selected}
 use Rattle.log_selections.specs.declared.unwritten.LoggedStore.{LoggedStore}
 use Rattle.log_selections.specs.declared.unwritten.UnwrittenLoad.{UnwrittenLoad}
 use Rattle.log_selections.specs.Unwritten.{lone_load}
 use Rattle.log_reports.specs.LogCounts.{is_nothing_judged, is_too_unknown}
-use Rattle.log_reports.specs.Lines.{line_text, lines_text}
+use Rattle.log_reports.specs.Lines.{log_line_text, log_lines_text}
 use Rattle.log_reports.specs.Namings.{naming_of_shown}
 use Rattle.trace_explanation.specs.JoinedTexts.{joined}
 use Rattle.trace_explanation.specs.Explanations.{explanation_by}
 use Rattle.log_reports.specs.declared.counts.LogCounts.{LogCounts}
 use Rattle.log_reports.specs.Findings.{has_unjudged}
 use Rattle.log_reports.specs.declared.findings.LogFindings.{LogFindings}
+use Rattle.log_reports.specs.declared.forms.LogFound.{LogFound}
+use Rattle.log_reports.specs.LogReports.{SaidOfLog}
 use Rattle.log_reports.specs.declared.findings.LogViolation.{LogViolation}
 use Rattle.log_reports.specs.declared.findings.LogViolation.TheVariants.{Selection, Unwritten}
-use Rattle.request_options.specs.declared.logs.LogForm.{LogForm}
-use Rattle.request_options.specs.declared.logs.LogForm.TheVariants.{Lines, Explained, Traces}
-use Rattle.request_options.specs.declared.logs.LogOptions.{LogOptions}
+use Rattle.trace_reports.specs.declared.findings.Finding.{Finding}
 
 -- ---- violations
 
@@ -37,16 +34,22 @@ store_text word s = word ++ decimal s.value ++ codes " line " ++ decimal s.line
 abbrev pub stored_text : UnwrittenLoad → List ℕ
 stored_text load = codes "stored " ++ decimal load.stores ++ option_map_or (store_text (codes " first ")) load.first [] ++ option_map_or (store_text (codes " last ")) load.last [] ++ codes "\n"
 
--- the explanation of a violation, where one is asked for
-abbrev pub explained_text : LogForm → ℕ → List Shown → TraceValue → Option Certificate → List ℕ
-explained_text Lines processors shown t certificate = []
-explained_text Explained processors shown t certificate = explanation_by (naming_of_shown processors shown) t certificate ++ codes "\n"
-explained_text Traces processors shown t certificate = []
+-- what is said after the lines of operations without an order, of a log with so many processors
+abbrev pub SaidAfterLines : Type 0
+SaidAfterLines = ℕ → Selected → Finding → List ℕ
 
--- the lines of a violation
-abbrev pub violation_text : LogForm → ℕ → LogViolation → List ℕ
-violation_text form processors (Selection selected finding) = lines_text selected.shown.items ++ explained_text form processors selected.shown.items selected.trace finding.certificate
-violation_text form processors (Unwritten load) = line_text load.shown ++ stored_text load
+-- nothing
+abbrev pub nothing_after : SaidAfterLines
+nothing_after processors selected finding = []
+
+-- why they have none
+abbrev pub explained_after : SaidAfterLines
+explained_after processors selected finding = explanation_by (naming_of_shown processors selected.shown.items) selected.trace finding.certificate ++ codes "\n"
+
+-- the lines of a violation, and what is said after them
+abbrev pub violation_text : SaidAfterLines → ℕ → LogViolation → List ℕ
+violation_text after processors (Selection selected finding) = log_lines_text selected.shown.items ++ after processors selected finding
+violation_text after processors (Unwritten load) = log_line_text load.shown ++ stored_text load
 
 -- the texts of elements, each after a line with a word and its number, from this number on
 abbrev pub numbered_from : {X : Type 0} → (X → List ℕ) → List ℕ → ℕ → List X → List ℕ
@@ -73,16 +76,16 @@ abbrev pub unknown_text : ℕ → LogCounts → List ℕ
 unknown_text percent counts = words_if (is_nothing_judged counts) (codes "NOTHING JUDGED\n") ++ words_if (is_too_unknown percent counts) (codes "TOO MANY UNKNOWN\n")
 
 -- what wasn't judged
-abbrev pub gaps_text : LogOptions → LogCounts → LogFindings → List ℕ
-gaps_text options counts findings = unsearched_text findings ++ unknown_text options.max_unknown counts
+abbrev pub gaps_text : LogFound → List ℕ
+gaps_text found = unsearched_text found.findings ++ unknown_text found.options.max_unknown found.counts
 
 -- a violation where one is listed
 abbrev pub found_text : LogFindings → List ℕ
 found_text findings = cond (is_empty findings.violations.items) (codes "NO VIOLATION FOUND\n") (codes "VIOLATION\n")
 
 -- that, and what wasn't judged
-abbrev pub verdict_text : LogOptions → LogCounts → LogFindings → List ℕ
-verdict_text options counts findings = found_text findings ++ gaps_text options counts findings
+abbrev pub verdict_text : LogFound → List ℕ
+verdict_text found = found_text found.findings ++ gaps_text found
 
 -- a number of violations, and whether there are more
 abbrev pub count_text : ℕ → Bool → List ℕ
@@ -92,27 +95,28 @@ count_text count has_more = codes "violations " ++ decimal count ++ words_if has
 abbrev pub total_text : LogFindings → List ℕ
 total_text findings = cond (is_empty findings.violations.items) [] (count_text (length findings.violations.items) findings.has_more)
 
--- the report
-abbrev pub report_text : LogOptions → LogCounts → LogFindings → List ℕ
-report_text options counts findings =
-    counts_text counts ++ verdict_text options counts findings
-    ++ numbered_from (violation_text options.form counts.processors) (codes "violation ") 1 findings.violations.items ++ total_text findings
-    ++ numbered_from (λ shown. lines_text shown.items) (codes "unjudged ") 1 findings.unjudged.items
+-- the report, with this after the lines of operations without an order
+abbrev pub report_text : SaidAfterLines → LogFound → List ℕ
+report_text after found =
+    counts_text found.counts ++ verdict_text found
+    ++ numbered_from (violation_text after found.counts.processors) (codes "violation ") 1 found.findings.violations.items ++ total_text found.findings
+    ++ numbered_from (λ shown. log_lines_text shown.items) (codes "unjudged ") 1 found.findings.unjudged.items
 
 -- the text of a violation's trace: of a load of what nothing wrote it is such a load alone
-abbrev pub trace_of : Order → LogViolation → List ℕ
-trace_of order (Selection selected finding) = trace_text selected.trace
-trace_of order (Unwritten load) = trace_text (lone_load order)
+abbrev pub violation_trace_text : Order → LogViolation → List ℕ
+violation_trace_text order (Selection selected finding) = trace_text selected.trace
+violation_trace_text order (Unwritten load) = trace_text (lone_load order)
 
-abbrev pub traces_text : Order → LogFindings → List ℕ
-traces_text order findings = flat_map (trace_of order) findings.violations.items
+abbrev pub violation_traces_text : Order → LogFindings → List ℕ
+violation_traces_text order findings = flat_map (violation_trace_text order) findings.violations.items
 
--- the same in this form
-abbrev pub text_as : LogForm → LogOptions → LogCounts → NumberedLog → LogFindings → List ℕ
-text_as Lines options counts log findings = report_text options counts findings
-text_as Explained options counts log findings = report_text options counts findings
-text_as Traces options counts log findings = traces_text log.order findings
+-- ---- the forms
 
--- what is printed in the form that is asked for
-abbrev pub text_in : LogOptions → LogCounts → NumberedLog → LogFindings → List ℕ
-text_in options counts log findings = text_as options.form options counts log findings
+abbrev pub log_lines : SaidOfLog
+log_lines log found = report_text nothing_after found
+
+abbrev pub log_explained : SaidOfLog
+log_explained log found = report_text explained_after found
+
+abbrev pub log_traces : SaidOfLog
+log_traces log found = violation_traces_text log.order found.findings

@@ -42,12 +42,12 @@ events_by s Mb = []
 events_by s Sb = []
 
 -- those of processor p, in program order
-abbrev pub events_of : List Shown → ℕ → List EventName
-events_of shown p = flat_map (λ s. events_by s s.logged.operation) (filter (λ s. s.processor == p) shown)
+abbrev pub event_names_of : List Shown → ℕ → List EventName
+event_names_of shown p = flat_map (λ s. events_by s s.logged.operation) (filter (λ s. s.processor == p) shown)
 
 -- those of each of so many processors, in the order that they have in a trace
 abbrev pub named_events : ℕ → List Shown → List EventName
-named_events processors shown = flat_map (events_of shown) (range_with_len 0 processors)
+named_events processors shown = flat_map (event_names_of shown) (range_with_len 0 processors)
 
 abbrev pub naming_of_shown : ℕ → List Shown → NamingValue
 naming_of_shown processors shown =

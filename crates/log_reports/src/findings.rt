@@ -15,7 +15,7 @@ use std::alloc::{AllocFailed, Global};
 use std::sync::Wait;
 use std::thread::Threads;
 use text_streams::Fault;
-use trace_judging::find_violation;
+use trace_judging::{ByRules, Question};
 use trace_reports::Finding;
 use tso_ops::OutOfMemory;
 
@@ -266,7 +266,7 @@ fn judge_kept<H: Threads + Wait>(
     let Some(selected) = known.select(alloc, kept)? else {
         return Ok(None);
     };
-    let finding = find_violation(rt, alloc, &selected.trace, 1)?;
+    let finding = ByRules { workers: 1 }.find(rt, alloc, &selected.trace)?;
     if finding.certificate.is_some() {
         Ok(Some(LogViolation::Selection { selected, finding }))
     } else {

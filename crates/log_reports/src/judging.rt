@@ -5,7 +5,7 @@ use log_selections::{Kept, KnownLog};
 use std::alloc::Global;
 use std::sync::Wait;
 use std::thread::Threads;
-use trace_reduction::is_violation;
+use trace_reduction::accuses_trace;
 use tso_ops::OutOfMemory;
 
 /// Judges operations of a log as a trace, in the caller's thread, until its effort is spent: they are accused where the trace is a violation.
@@ -44,7 +44,7 @@ impl<H: Threads + Wait> Judge for TraceJudge<'_, H> {
             return Ok(false);
         }
         match self.known.trace_of(self.alloc, kept)? {
-            Some(trace) => is_violation(self.rt, self.alloc, &trace, &mut self.effort),
+            Some(trace) => accuses_trace(self.rt, self.alloc, &trace, &mut self.effort),
             None => Ok(false),
         }
     }

@@ -1,13 +1,16 @@
 //! What is found in a log, and what is printed of it: each violation by lines of the log that have no memory order.
 //!
-//! `report_log` reads a log, searches it, and writes its report. `README.md` says what is proved.
+//! `report_log` reads a log, searches it, and writes what a `LogRendering` says of it. `README.md` says what is proved.
 #![tactic(auto)]
 
+pub use counts::LogCounts;
 pub use findings::{LogFindings, LogViolation, find_violations};
-pub use reports::report_log;
+pub use forms::{AsExplainedLog, AsLogLines, AsLogTraces, LogFound, LogRendering};
+pub use reports::{LogReporting, report_log};
 
 mod counts;
 mod findings;
+mod forms;
 mod judging;
 pub mod laws;
 mod lines;

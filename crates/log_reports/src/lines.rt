@@ -1,6 +1,6 @@
 //! Lines of a log.
 ghost use Rattle.std.specs.Prelude.{◌≡◌, ◌++◌, string_bytes, OnOk};
-ghost use Rattle.log_reports.specs.Lines.{line_text, lines_text, operation_text};
+ghost use Rattle.log_reports.specs.Lines.{log_line_text, log_lines_text, operation_text};
 
 use log_selections::Shown;
 use log_text::LogOperation;
@@ -10,7 +10,7 @@ use tso_text::words::{LD, MB, ST, STBAR, SW};
 
 /// Appends these lines. OutOfMemory where an allocation was refused.
 pub(crate) fn push_lines(text: &mut String, shown: &[Shown]) -> Result<(), AllocError>
-    ensures { OnOk result (string_bytes text.new ≡ string_bytes text.old ++ lines_text shown.now) }
+    ensures { OnOk result (string_bytes text.new ≡ string_bytes text.old ++ log_lines_text shown.now) }
 {
     for s in shown {
         push_line(text, s)?;
@@ -20,7 +20,7 @@ pub(crate) fn push_lines(text: &mut String, shown: &[Shown]) -> Result<(), Alloc
 
 /// Appends a line: its number, and how it stands in the log.
 pub(crate) fn push_line(text: &mut String, shown: &Shown) -> Result<(), AllocError>
-    ensures { OnOk result (string_bytes text.new ≡ string_bytes text.old ++ line_text shown.now) }
+    ensures { OnOk result (string_bytes text.new ≡ string_bytes text.old ++ log_line_text shown.now) }
 {
     let line = shown.logged.line;
     let processor = shown.processor;

@@ -1,7 +1,7 @@
 //! What the explanation of a violation calls its events.
 ghost use Rattle.std.specs.Prelude.{◌≡◌, ◌++◌, [], ◌∷◌, List, IfOk, OnOk};
 ghost use Rattle.log_reports.specs.Internal.NamedEvents.{AreNames};
-ghost use Rattle.log_reports.specs.Namings.{EventName, event_of, events_by, events_of, naming_of_shown, swap_events};
+ghost use Rattle.log_reports.specs.Namings.{EventName, event_names_of, event_of, events_by, naming_of_shown, swap_events};
 
 use crate::lines::push_operation;
 use log_selections::Shown;
@@ -44,7 +44,7 @@ pub(crate) fn name_events(
 impl NamedEvents {
     /// Appends the events of processor `p`.
     fn push_processor(&mut self, alloc: Global, shown: &[Shown], p: usize) -> Result<(), AllocError>
-        ensures { OnOk result ((events : List EventName) → AreNames self.old events → AreNames self.new (events ++ events_of shown.now p)) }
+        ensures { OnOk result ((events : List EventName) → AreNames self.old events → AreNames self.new (events ++ event_names_of shown.now p)) }
     {
         for s in shown {
             if s.processor == p {

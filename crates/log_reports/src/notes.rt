@@ -1,24 +1,24 @@
 //! Notes on a search: what its report doesn't say.
 
-use crate::counts::LogCounts;
-use crate::findings::{LogFindings, LogViolation};
+use crate::findings::LogViolation;
+use crate::forms::{LogFound, LogRendering};
 use crate::rendering::push_gaps;
 use log_selections::Shown;
-use request_options::{LogForm, LogOptions};
 use std::alloc::{AllocError, Global};
 use std::fmt::Write;
 use tso_ops::OutOfMemory;
 
-/// Lines on what was left out of what is printed, and why; nothing where all is there. Where traces are printed, first a line for
-/// each of them with the lines of the log that it has. OutOfMemory where an allocation was refused.
-pub(crate) fn render_notes(
+/// Lines on what was left out of what is printed, and why; nothing where all is there. If what is printed doesn't name lines, there
+/// is first a line for each trace with the lines of the log that it has. OutOfMemory where an allocation was refused.
+pub(crate) fn render_notes<P: LogRendering>(
     alloc: Global,
-    options: LogOptions,
-    counts: LogCounts,
-    findings: &LogFindings,
+    rendering: &P,
+    found: &LogFound,
 ) -> Result<String, OutOfMemory> {
+    let findings = &found.findings;
+    let names_lines = rendering.names_lines();
     let mut text = String::new(alloc);
-    if options.form == LogForm::Traces {
+    if !names_lines {
         push_origins(&mut text, &findings.violations)?;
     }
     push_note(
@@ -38,10 +38,10 @@ pub(crate) fn render_notes(
             findings.parts,
         )?;
     }
-    if options.form == LogForm::Traces {
+    if !names_lines {
         let unjudged = findings.unjudged.len();
         push_note(&mut text, "unjudged, past the limits of a trace", unjudged)?;
-        push_gaps(&mut text, options, counts, findings)?;
+        push_gaps(&mut text, found)?;
     }
     Ok(text)
 }

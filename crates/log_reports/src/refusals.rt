@@ -1,32 +1,19 @@
 //! What is said of a refused log.
 ghost use Rattle.std.specs.Prelude.{◌≡◌, ◌++◌, OnOk, string_bytes};
-ghost use Rattle.log_reports.specs.LogRefusals.{log_refusal_explanation, log_sentence, said_of_refusal};
+ghost use Rattle.log_reports.specs.LogRefusals.{log_refusal_explanation, log_sentence};
 
 use crate::refusal_sentences::{BAD_LINE, BAD_MODEL, BAD_NUMBER, INIT_ORDER, PROCESSOR_RANGE};
-use request_options::LogForm;
 use std::alloc::AllocError;
 use trace_explanation::explain_refusal;
 use tso_text::{TextFault, Why};
 
-/// Appends what is said of a log that is refused by this fault, where explanations are asked for: the line that decided, where
-/// there is one, and the rule that it breaks. It follows the line of the refusal. OutOfMemory where an allocation was refused.
-pub(crate) fn push_said_of_refusal(
+/// Appends what explains that a log is refused for this fault: the line that decided, where there is one, and the rule that it
+/// breaks. It follows the line of the refusal. OutOfMemory where an allocation was refused.
+pub(crate) fn explain_log_refusal(
     text: &mut String,
-    form: LogForm,
     input: &[u8],
     fault: TextFault,
 ) -> Result<(), AllocError>
-    ensures { OnOk result (string_bytes text.new ≡ string_bytes text.old ++ said_of_refusal form input.now fault.line fault.why) }
-{
-    match form {
-        LogForm::Lines => Ok(()),
-        LogForm::Explained => explain_log_refusal(text, input, fault),
-        LogForm::Traces => Ok(()),
-    }
-}
-
-/// Appends the line that decided, where there is one, and the rule that it breaks.
-fn explain_log_refusal(text: &mut String, input: &[u8], fault: TextFault) -> Result<(), AllocError>
     ensures { OnOk result (string_bytes text.new ≡ string_bytes text.old ++ log_refusal_explanation input.now fault.line fault.why) }
 {
     // Traces have no rule of this name: of such a refusal the line alone is said.

@@ -1,16 +1,16 @@
 //! The text of what is found in a log.
-ghost use Rattle.std.specs.Prelude.{◌≡◌, ◌++◌, [], ℕ, IfOk, OnOk, codes, string_bytes};
+ghost use Rattle.std.specs.Prelude.{◌≡◌, ◌++◌, [], IfOk, OnOk, codes, string_bytes};
 ghost use Rattle.std.specs.Option.{option_map_or};
-ghost use Rattle.log_reports.specs.Lines.{lines_text};
-ghost use Rattle.request_options.specs.declared.logs.LogForm.{LogForm};
-ghost use Rattle.log_reports.specs.LogTexts.{count_text, counts_text, explained_text, found_text, gaps_text, numbered_from, report_text, store_text, stored_text, text_in, total_text, trace_of, traces_text, unknown_text, unsearched_text, verdict_text, violation_text, words_if};
+ghost use Rattle.log_reports.specs.Lines.{log_lines_text};
+ghost use Rattle.log_reports.specs.Internal.ViolationTexts.{after_lines};
+ghost use Rattle.log_reports.specs.LogTexts.{count_text, counts_text, explained_after, found_text, gaps_text, numbered_from, report_text, store_text, stored_text, total_text, unknown_text, unsearched_text, verdict_text, violation_text, violation_trace_text, violation_traces_text, words_if};
 
 use crate::counts::LogCounts;
 use crate::findings::{LogFindings, LogViolation};
+use crate::forms::LogFound;
 use crate::lines::{push_line, push_lines};
 use crate::naming::name_events;
-use log_selections::{KnownLog, LoggedStore, Selected, Shown, UnwrittenLoad, lone_load};
-use request_options::{LogForm, LogOptions};
+use log_selections::{LoggedStore, Selected, Shown, UnwrittenLoad, lone_load};
 use std::alloc::{AllocError, Global};
 use std::fmt::Write;
 use trace_explanation::explain_named;
@@ -18,41 +18,19 @@ use trace_reports::Finding;
 use tso_ops::{Order, OutOfMemory};
 use tso_text::print_trace;
 
-/// What is printed of what was found in a log that has so much. OutOfMemory where an allocation was refused.
-pub(crate) fn render(
+/// The report, with explanations or without. OutOfMemory where an allocation was refused.
+pub(crate) fn render_report(
     alloc: Global,
-    options: LogOptions,
-    counts: LogCounts,
-    known: &KnownLog,
-    findings: &LogFindings,
+    explains: bool,
+    found: &LogFound,
 ) -> Result<String, OutOfMemory>
-    ensures { IfOk result (λ text. string_bytes text ≡ text_in options counts known.now findings.now) }
+    ensures { IfOk result (λ text. string_bytes text ≡ report_text (after_lines explains) found.now) }
 {
-    match options.form {
-        LogForm::Lines => render_report(alloc, options, counts, findings),
-        LogForm::Explained => render_report(alloc, options, counts, findings),
-        LogForm::Traces => render_traces(alloc, known.log().order, findings),
-    }
-}
-
-/// The report.
-fn render_report(
-    alloc: Global,
-    options: LogOptions,
-    counts: LogCounts,
-    findings: &LogFindings,
-) -> Result<String, OutOfMemory>
-    ensures { IfOk result (λ text. string_bytes text ≡ report_text options counts findings.now) }
-{
-    let mut text = render_counts(alloc, counts)?;
-    push_verdict(&mut text, options, counts, findings)?;
-    push_numbered(
-        alloc,
-        &mut text,
-        options.form,
-        counts.processors,
-        &findings.violations,
-    )?;
+    let findings = &found.findings;
+    let processors = found.counts.processors;
+    let mut text = render_counts(alloc, found.counts)?;
+    push_verdict(&mut text, found)?;
+    push_numbered(alloc, &mut text, explains, processors, &findings.violations)?;
     push_total(&mut text, findings)?;
     push_unjudged(&mut text, &findings.unjudged)?;
     Ok(text)
@@ -79,16 +57,11 @@ fn render_counts(alloc: Global, counts: LogCounts) -> Result<String, AllocError>
 }
 
 /// Appends the verdict, and what wasn't judged.
-fn push_verdict(
-    text: &mut String,
-    options: LogOptions,
-    counts: LogCounts,
-    findings: &LogFindings,
-) -> Result<(), OutOfMemory>
-    ensures { OnOk result (string_bytes text.new ≡ string_bytes text.old ++ verdict_text options counts findings.now) }
+fn push_verdict(text: &mut String, found: &LogFound) -> Result<(), OutOfMemory>
+    ensures { OnOk result (string_bytes text.new ≡ string_bytes text.old ++ verdict_text found.now) }
 {
-    push_found(text, findings)?;
-    push_gaps(text, options, counts, findings)?;
+    push_found(text, &found.findings)?;
+    push_gaps(text, found)?;
     Ok(())
 }
 
@@ -104,16 +77,11 @@ fn push_found(text: &mut String, findings: &LogFindings) -> Result<(), AllocErro
 }
 
 /// Appends what wasn't judged: the rest of the log, what is no trace, all loads, or too many of them.
-pub(crate) fn push_gaps(
-    text: &mut String,
-    options: LogOptions,
-    counts: LogCounts,
-    findings: &LogFindings,
-) -> Result<(), OutOfMemory>
-    ensures { OnOk result (string_bytes text.new ≡ string_bytes text.old ++ gaps_text options counts findings.now) }
+pub(crate) fn push_gaps(text: &mut String, found: &LogFound) -> Result<(), OutOfMemory>
+    ensures { OnOk result (string_bytes text.new ≡ string_bytes text.old ++ gaps_text found.now) }
 {
-    push_unsearched(text, findings)?;
-    push_unknown(text, options.max_unknown, counts)?;
+    push_unsearched(text, &found.findings)?;
+    push_unknown(text, found.options.max_unknown, found.counts)?;
     Ok(())
 }
 
@@ -175,16 +143,16 @@ fn more_words(has_more: bool) -> &'static str
 fn push_numbered(
     alloc: Global,
     text: &mut String,
-    form: LogForm,
+    explains: bool,
     processors: usize,
     violations: &[LogViolation],
 ) -> Result<(), AllocError>
-    ensures { OnOk result (string_bytes text.new ≡ string_bytes text.old ++ numbered_from (violation_text form processors) (codes "violation ") 1 violations.now) }
+    ensures { OnOk result (string_bytes text.new ≡ string_bytes text.old ++ numbered_from (violation_text (after_lines explains) processors) (codes "violation ") 1 violations.now) }
 {
     for (k, violation) in violations.iter().enumerate() {
         let number = k + 1;
         write!(text, "violation {number}\n")?;
-        push_violation(alloc, text, form, processors, violation)?;
+        push_violation(alloc, text, explains, processors, violation)?;
     }
     Ok(())
 }
@@ -193,16 +161,16 @@ fn push_numbered(
 fn push_violation(
     alloc: Global,
     text: &mut String,
-    form: LogForm,
+    explains: bool,
     processors: usize,
     violation: &LogViolation,
 ) -> Result<(), AllocError>
-    ensures { OnOk result (string_bytes text.new ≡ string_bytes text.old ++ violation_text form processors violation.now) }
+    ensures { OnOk result (string_bytes text.new ≡ string_bytes text.old ++ violation_text (after_lines explains) processors violation.now) }
 {
     match violation {
         LogViolation::Selection { selected, finding } => {
             push_lines(text, &selected.shown)?;
-            if form == LogForm::Explained {
+            if explains {
                 push_explanation(alloc, text, processors, selected, finding)?;
             }
             Ok(())
@@ -222,7 +190,7 @@ fn push_explanation(
     selected: &Selected,
     finding: &Finding,
 ) -> Result<(), AllocError>
-    ensures { OnOk result (string_bytes text.new ≡ string_bytes text.old ++ explained_text LogForm.Explained processors selected.now.shown.items selected.now.trace finding.now.certificate) }
+    ensures { OnOk result (string_bytes text.new ≡ string_bytes text.old ++ explained_after processors selected.now finding.now) }
 {
     let names = name_events(alloc, processors, &selected.shown)?;
     explain_named(alloc, text, &selected.trace, &finding.certificate, &names)?;
@@ -254,7 +222,7 @@ fn push_store(text: &mut String, word: &str, store: Option<LoggedStore>) -> Resu
 
 /// Appends the lines that couldn't be judged, each group after a line with its number.
 fn push_unjudged(text: &mut String, unjudged: &[Vec<Shown>]) -> Result<(), AllocError>
-    ensures { OnOk result (string_bytes text.new ≡ string_bytes text.old ++ numbered_from (λ shown. lines_text shown.items) (codes "unjudged ") 1 unjudged.now) }
+    ensures { OnOk result (string_bytes text.new ≡ string_bytes text.old ++ numbered_from (λ shown. log_lines_text shown.items) (codes "unjudged ") 1 unjudged.now) }
 {
     for (k, shown) in unjudged.iter().enumerate() {
         let number = k + 1;
@@ -264,9 +232,13 @@ fn push_unjudged(text: &mut String, unjudged: &[Vec<Shown>]) -> Result<(), Alloc
     Ok(())
 }
 
-/// The texts of the violations' traces, under this memory model.
-fn render_traces(alloc: Global, order: Order, findings: &LogFindings) -> Result<String, OutOfMemory>
-    ensures { IfOk result (λ text. string_bytes text ≡ traces_text order findings.now) }
+/// The texts of the violations' traces, under this memory model. OutOfMemory where an allocation was refused.
+pub(crate) fn render_traces(
+    alloc: Global,
+    order: Order,
+    findings: &LogFindings,
+) -> Result<String, OutOfMemory>
+    ensures { IfOk result (λ text. string_bytes text ≡ violation_traces_text order findings.now) }
 {
     let mut text = String::new(alloc);
     for violation in &findings.violations {
@@ -282,7 +254,7 @@ fn push_trace(
     order: Order,
     violation: &LogViolation,
 ) -> Result<(), OutOfMemory>
-    ensures { OnOk result (string_bytes text.new ≡ string_bytes text.old ++ trace_of order violation.now) }
+    ensures { OnOk result (string_bytes text.new ≡ string_bytes text.old ++ violation_trace_text order violation.now) }
 {
     match violation {
         LogViolation::Selection { selected, .. } => {

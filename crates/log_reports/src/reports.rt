@@ -9,26 +9,33 @@ ghost use Rattle.tso_ops.specs.Events.{IsUnwritten};
 ghost use Rattle.log_text.specs.LogTexts.{SpellsLog};
 ghost use Rattle.log_text.specs.LogValues.{NumberedLog, log_operations, log_value};
 ghost use Rattle.tso_text.specs.declared.faults.Why.{Why};
-ghost use Rattle.log_reports.specs.LogRefusals.{log_refusal_text};
 ghost use Rattle.log_reports.specs.LogReports.{IsLogReportOfReader, IsReportOf, verdict_of};
 
 use crate::counts::LogCounts;
-use crate::findings::{LogFindings, find_violations};
+use crate::findings::find_violations;
+use crate::forms::{LogFound, LogRendering};
 use crate::notes::render_notes;
-use crate::refusals::push_said_of_refusal;
-use crate::rendering::render;
 use log_selections::KnownLog;
 use log_text::{Log, read_log};
 use progress_meters::TotalMeter;
-use request_options::{LogForm, LogOptions};
+use request_options::LogOptions;
 use std::alloc::Global;
 use std::io::{Read, Write};
 use std::sync::Wait;
 use std::thread::Threads;
 use text_streams::{Fault, read_all, write_text};
-use trace_reports::{Answer, render_refusal};
+use trace_reports::Answer;
 use tso_ops::OutOfMemory;
-use tso_text::TextFault;
+use tso_text::{TextFault, Why};
+
+/// How a log is reported on: what is looked for in it, and how it is told what was found.
+#[derive(Drop)]
+pub struct LogReporting<'a, P> {
+    /// What is looked for, and for how long. The form that it names isn't read.
+    pub options: LogOptions,
+    /// What is said of what was found, and of a text that is no log.
+    pub rendering: &'a P,
+}
 
 /// What is printed of a log, and notes on what isn't.
 #[derive(Drop)]
@@ -38,8 +45,7 @@ struct LogReport {
     verdict: Answer,
 }
 
-/// Reports on the log that a reader has: writes its violations, or where the text is no log's the line of its refusal, and with
-/// explanations the line of the text that decided, and the rule that it breaks.
+/// Reports on the log that a reader has: writes what the rendering says of what was found in it, or of a text that is no log.
 ///
 /// Notes on what was left out go to `errors`; what that doesn't take is lost. The meter hears how many operations the log has, and
 /// of each once, when the search passed it: of all, unless the search ended early or found more violations than are listed.
@@ -47,23 +53,30 @@ struct LogReport {
 /// Faults: OutOfMemory where an allocation was refused; Read where the reader failed, or didn't show its end within 2,097,152
 /// calls of `read`; NoThread where the system refused a thread; Write where the writer failed, took no byte or was interrupted
 /// more than 1,048,576 times.
-pub fn report_log<H: Threads + Wait + AllocGlobal, M: TotalMeter, R: Read, W: Write, E: Write>(
+pub fn report_log<
+    H: Threads + Wait + AllocGlobal,
+    P: LogRendering,
+    M: TotalMeter,
+    R: Read,
+    W: Write,
+    E: Write,
+>(
     rt: &H,
-    options: LogOptions,
+    reporting: &LogReporting<'_, P>,
     meter: &M,
     reader: &mut R,
     writer: &mut W,
     errors: &mut E,
 ) -> Result<Answer, Fault>
-    ensures report { IfOk result (WritesWhole (IsLogReportOfReader options (R.remaining reader.old)) (W.contents writer.old) (W.contents writer.new)) }
+    ensures report { IfOk result (WritesWhole (IsLogReportOfReader P.said P.refused reporting.now.options (R.remaining reader.old)) (W.contents writer.old) (W.contents writer.new)) }
     ensures no_order { IfOk result (λ verdict. verdict ≡ Answer.Violation → IfSome (R.remaining reader.old) (λ all. (log : NumberedLog) → SpellsLog all log → IsConsistent (log_operations log) → ⊥)) }
     ensures written { IfOk result (λ verdict. verdict ≡ Answer.Clear → IfSome (R.remaining reader.old) (λ all. (log : NumberedLog) → SpellsLog all log → (l : ℕ) → IsUnwritten (log_operations log) l → ⊥)) }
     ensures taken { IfOk result (λ _. IfSome (R.remaining reader.old) (λ all. Consumes (R.remaining reader.old) (R.remaining reader.new) all)) }
-    ensures left { IfErr result (LeavesAtFault (IsLogReportOfReader options (R.remaining reader.old)) (W.contents writer.old) (W.contents writer.new)) }
+    ensures left { IfErr result (LeavesAtFault (IsLogReportOfReader P.said P.refused reporting.now.options (R.remaining reader.old)) (W.contents writer.old) (W.contents writer.new)) }
     ensures told { (text : List ℕ) × AppendsPrefix (E.contents errors.old) (E.contents errors.new) text }
     ensures untold { OnErr result (Keeps (E.contents errors.old) (E.contents errors.new)) }
 {
-    let report = read_report(rt, options, meter, reader)?;
+    let report = read_report(rt, reporting, meter, reader)?;
     write_text(writer, report.text.as_bytes())?;
     // The report is written: nothing can be done where notes on it can't be.
     let _ = write_text(errors, report.notes.as_bytes());
@@ -71,58 +84,66 @@ pub fn report_log<H: Threads + Wait + AllocGlobal, M: TotalMeter, R: Read, W: Wr
 }
 
 /// The report on the log that a reader has.
-fn read_report<H: Threads + Wait + AllocGlobal, M: TotalMeter, R: Read>(
+fn read_report<H: Threads + Wait + AllocGlobal, P: LogRendering, M: TotalMeter, R: Read>(
     rt: &H,
-    options: LogOptions,
+    reporting: &LogReporting<'_, P>,
     meter: &M,
     reader: &mut R,
 ) -> Result<LogReport, Fault>
-    ensures report { IfOk result (λ report. IsLogReportOfReader options (R.remaining reader.old) (string_bytes report.text) report.verdict) }
+    ensures report { IfOk result (λ report. IsLogReportOfReader P.said P.refused reporting.now.options (R.remaining reader.old) (string_bytes report.text) report.verdict) }
     ensures taken { IfOk result (λ _. IfSome (R.remaining reader.old) (λ all. Consumes (R.remaining reader.old) (R.remaining reader.new) all)) }
     ensures fault { IfErr result (λ fault. (fault ≡ Fault.OutOfMemory) ⊎ (fault ≡ Fault.NoThread) ⊎ (fault ≡ Fault.Read)) }
 {
     let alloc = rt.alloc();
     let text = read_all(alloc, reader, usize::MAX)?;
-    match read_log(alloc, &text, options.needs_end) {
+    match read_log(alloc, &text, reporting.options.needs_end) {
         Ok(log) => {
             // A long log's text takes memory that the search needs.
             drop(text);
-            report_on(rt, options, meter, log)
+            report_on(rt, reporting, meter, log)
         }
-        Err(fault) => Ok(refuse(alloc, options.form, &text, fault)?),
+        Err(fault) => Ok(refuse(alloc, reporting.rendering, &text, fault)?),
     }
 }
 
 /// The report on a log.
-fn report_on<H: Threads + Wait + AllocGlobal, M: TotalMeter>(
+fn report_on<H: Threads + Wait + AllocGlobal, P: LogRendering, M: TotalMeter>(
     rt: &H,
-    options: LogOptions,
+    reporting: &LogReporting<'_, P>,
     meter: &M,
     log: Log,
 ) -> Result<LogReport, Fault>
-    ensures report { IfOk result (λ report. IsReportOf (log_value log) options (string_bytes report.text) report.verdict) }
+    ensures report { IfOk result (λ report. IsReportOf P.said (log_value log) reporting.now.options (string_bytes report.text) report.verdict) }
     ensures fault { IfErr result (λ fault. (fault ≡ Fault.OutOfMemory) ⊎ (fault ≡ Fault.NoThread)) }
 {
     let alloc = rt.alloc();
+    let options = reporting.options;
+    let rendering = reporting.rendering;
     let known = KnownLog::new(alloc, log)?;
     let counts = LogCounts::new(known.log(), known.ambiguous_loads())?;
     meter.expect_total(counts.operations as u64);
     let findings = find_violations(rt, alloc, &known, options, meter)?;
+    let found = LogFound {
+        options,
+        counts,
+        findings,
+    };
     Ok(LogReport {
-        text: render(alloc, options, counts, &known, &findings)?,
-        notes: render_notes(alloc, options, counts, &findings)?,
-        verdict: verdict_of(options, counts, &findings)?,
+        text: rendering.text_of_found(alloc, &known, &found)?,
+        notes: render_notes(alloc, rendering, &found)?,
+        verdict: verdict_of(&found)?,
     })
 }
 
 /// What is said of a log by what was found in it. OutOfMemory where it has more loads than memory holds.
-fn verdict_of(
-    options: LogOptions,
-    counts: LogCounts,
-    findings: &LogFindings,
-) -> Result<Answer, OutOfMemory>
-    ensures { IfOk result (λ verdict. verdict ≡ verdict_of options counts findings.now) }
+fn verdict_of(found: &LogFound) -> Result<Answer, OutOfMemory>
+    ensures { IfOk result (λ verdict. verdict ≡ verdict_of found.now) }
 {
+    let LogFound {
+        options,
+        counts,
+        findings,
+    } = found;
     let is_too_unknown = counts.is_too_unknown(options.max_unknown)?;
     if !findings.violations.is_empty() {
         return Ok(Answer::Violation);
@@ -138,19 +159,21 @@ fn verdict_of(
     }
 }
 
-/// The report of a refusal of this text, in this form. OutOfMemory where an allocation was refused, also where the fault says so.
-fn refuse(
+/// What the rendering says of a text that is refused for this fault. OutOfMemory where an allocation was refused, also where the
+/// fault says so.
+fn refuse<P: LogRendering>(
     alloc: Global,
-    form: LogForm,
+    rendering: &P,
     input: &[u8],
     fault: TextFault,
 ) -> Result<LogReport, OutOfMemory>
-    ensures { IfOk result (λ report. (fault.why ≢ Why.OutOfMemory) × (string_bytes report.text ≡ log_refusal_text form input.now fault.line fault.why) × (report.verdict ≡ Answer.Refused)) }
+    ensures { IfOk result (λ report. (fault.why ≢ Why.OutOfMemory) × (string_bytes report.text ≡ P.refused input.now fault.line fault.why) × (report.verdict ≡ Answer.Refused)) }
 {
-    let mut text = render_refusal(alloc, fault)?.text;
-    push_said_of_refusal(&mut text, form, input, fault)?;
+    if fault.why == Why::OutOfMemory {
+        return Err(OutOfMemory);
+    }
     Ok(LogReport {
-        text,
+        text: rendering.text_of_refusal(alloc, input, fault)?,
         notes: String::new(alloc),
         verdict: Answer::Refused,
     })

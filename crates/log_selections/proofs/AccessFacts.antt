@@ -6,7 +6,7 @@ use Rattle.std.specs.List.{flat_map}
 use Rattle.std.proofs.lemmas.List.Sums.{sum_by-append, sum_by-cons}
 use Rattle.tso_ops.specs.Values.{op_of, rows}
 use Rattle.tso_ops.specs.Limits.{event_count, total_events}
-use Rattle.log_text.specs.LogValues.{outcome_of, outcomes_of}
+use Rattle.log_text.specs.LogValues.{logged_outcome, logged_outcomes}
 use Rattle.log_text.specs.declared.logs.LogOperation.TheVariants.{Sw}
 use Rattle.log_text.specs.declared.logs.LogOperation.{LogOperation}
 use Rattle.log_text.specs.declared.logs.LoggedOperation.{LoggedOperation}
@@ -36,29 +36,29 @@ numbers-next done numbers row rest =
 -- ---- the numbers of operations
 
 -- how many events an operation gives
-event_count-accesses : (x : LogOperation) → event_count (op_of (outcome_of x)) ≡ length (accesses_of x)
+event_count-accesses : (x : LogOperation) → event_count (op_of (logged_outcome x)) ≡ length (accesses_of x)
 event_count-accesses (Sw a r v) = refl
 event_count-accesses x = refl
 
 -- a processor's events are its accesses
-pub total_events-accesses : (xs : List LoggedOperation) → total_events (map op_of (outcomes_of xs)) ≡ length (accesses_of_list xs)
+pub total_events-accesses : (xs : List LoggedOperation) → total_events (map op_of (logged_outcomes xs)) ≡ length (accesses_of_list xs)
 total_events-accesses [] = refl
 total_events-accesses (x ∷ xs) =
-    omega (arith, sum_by-cons event_count (op_of (outcome_of x.operation)) (map op_of (outcomes_of xs)), event_count-accesses x.operation, total_events-accesses xs, length-append (accesses_of x.operation) (accesses_of_list xs))
+    omega (arith, sum_by-cons event_count (op_of (logged_outcome x.operation)) (map op_of (logged_outcomes xs)), event_count-accesses x.operation, total_events-accesses xs, length-append (accesses_of x.operation) (accesses_of_list xs))
 
 -- the number of an operation: that of the first, and the events of those before it
-pub number_at : (n : ℕ) (xs : List LoggedOperation) (i d : ℕ) → i < length xs → get_or (numbers_from n xs) i d ≡ n + total_events (map op_of (take i (outcomes_of xs)))
+pub number_at : (n : ℕ) (xs : List LoggedOperation) (i d : ℕ) → i < length xs → get_or (numbers_from n xs) i d ≡ n + total_events (map op_of (take i (logged_outcomes xs)))
 number_at n [] i d within = omega (arith)
 number_at n (x ∷ xs) zero d within = omega (arith)
 number_at n (x ∷ xs) (suc i) d within =
-    omega (arith, number_at (n + length (accesses_of x.operation)) xs i d (omega arith), event_count-accesses x.operation, sum_by-cons event_count (op_of (outcome_of x.operation)) (map op_of (take i (outcomes_of xs))))
+    omega (arith, number_at (n + length (accesses_of x.operation)) xs i d (omega arith), event_count-accesses x.operation, sum_by-cons event_count (op_of (logged_outcome x.operation)) (map op_of (take i (logged_outcomes xs))))
 
 -- the numbers of a processor's operations: those after the events of the processors before it
 pub numbers_at : (n : ℕ) (lists : List (List LoggedOperation)) (p : ℕ) → p < length lists →
-    get_or (numbers_of_lists n lists) p [] ≡ numbers_from (n + total_events (flat_map (map op_of) (take p (map outcomes_of lists)))) (get_or lists p [])
+    get_or (numbers_of_lists n lists) p [] ≡ numbers_from (n + total_events (flat_map (map op_of) (take p (map logged_outcomes lists)))) (get_or lists p [])
 numbers_at n [] p within = let none : ⊥ = omega arith in absurd none
 numbers_at n (xs ∷ lists) zero within = ap (λ m. numbers_from m xs) (omega arith)
 numbers_at n (xs ∷ lists) (suc p) within =
     numbers_at (n + length (accesses_of_list xs)) lists p (omega arith)
     ∙ ap (λ m. numbers_from m (get_or lists p []))
-    (omega (arith, total_events-accesses xs, sum_by-append event_count (map op_of (outcomes_of xs)) (flat_map (map op_of) (take p (map outcomes_of lists)))))
+    (omega (arith, total_events-accesses xs, sum_by-append event_count (map op_of (logged_outcomes xs)) (flat_map (map op_of) (take p (map logged_outcomes lists)))))

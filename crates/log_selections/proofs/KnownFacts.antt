@@ -11,7 +11,7 @@ use Rattle.log_selections.specs.Sources.{HasTwoSources, IsAmbiguousCount, IsCoun
 use Rattle.log_text.specs.declared.logs.LogOperation.{LogOperation}
 use Rattle.log_text.specs.declared.logs.LoggedOperation.{LoggedOperation}
 use Rattle.log_text.specs.declared.logs.LogOperation.TheVariants.{Ld, St, Sw, Mb, Sb}
-use Rattle.log_text.specs.LogValues.{NumberedLog, log_operations, outcome_of, outcomes_of}
+use Rattle.log_text.specs.LogValues.{NumberedLog, log_operations, logged_outcome, logged_outcomes}
 use Rattle.log_selections.specs.declared.accesses.Access.{Access}
 use Rattle.log_selections.specs.Internal.Accesses.{accesses_of, accesses_of_list, accesses_of_lists}
 use Rattle.log_selections.specs.Internal.Known.{AreAllListed, AreSources, IsAmbiguousLoad, IsOnlyWriter, IsUnwrittenNumber, IsWriter, source_in}
@@ -24,8 +24,8 @@ injective x y same = cc
 access_of : Event → Access
 access_of e = record { load = e.load; a = e.a; value = e.value }
 
-module _ (p : ℕ) (xs : List LoggedOperation) (rest : (bars stbars : ℕ) → map access_of (events_from p bars stbars (outcomes_of xs)) ≡ accesses_of_list xs) where
-  operation_accesses : (bars stbars : ℕ) (x : LogOperation) → map access_of (events_from p bars stbars (outcome_of x ∷ outcomes_of xs)) ≡ accesses_of x ++ accesses_of_list xs
+module _ (p : ℕ) (xs : List LoggedOperation) (rest : (bars stbars : ℕ) → map access_of (events_from p bars stbars (logged_outcomes xs)) ≡ accesses_of_list xs) where
+  operation_accesses : (bars stbars : ℕ) (x : LogOperation) → map access_of (events_from p bars stbars (logged_outcome x ∷ logged_outcomes xs)) ≡ accesses_of x ++ accesses_of_list xs
   unfolding access_of
   operation_accesses bars stbars (Ld a r) = ap (λ ys. record { load = true; a = a; value = r } ∷ ys) (rest bars stbars)
   operation_accesses bars stbars (St a v) = ap (λ ys. record { load = false; a = a; value = v } ∷ ys) (rest bars stbars)
@@ -33,15 +33,15 @@ module _ (p : ℕ) (xs : List LoggedOperation) (rest : (bars stbars : ℕ) → m
   operation_accesses bars stbars Mb = rest (suc bars) stbars
   operation_accesses bars stbars Sb = rest bars (suc stbars)
 
-list_accesses : (p bars stbars : ℕ) (xs : List LoggedOperation) → map access_of (events_from p bars stbars (outcomes_of xs)) ≡ accesses_of_list xs
+list_accesses : (p bars stbars : ℕ) (xs : List LoggedOperation) → map access_of (events_from p bars stbars (logged_outcomes xs)) ≡ accesses_of_list xs
 list_accesses p bars stbars [] = refl
 list_accesses p bars stbars (x ∷ xs) = operation_accesses p xs (λ b s. list_accesses p b s xs) bars stbars x.operation
 
-lists_accesses : (p : ℕ) (lists : List (List LoggedOperation)) → map access_of (events_of_lists p (map outcomes_of lists)) ≡ accesses_of_lists lists
+lists_accesses : (p : ℕ) (lists : List (List LoggedOperation)) → map access_of (events_of_lists p (map logged_outcomes lists)) ≡ accesses_of_lists lists
 lists_accesses p [] = refl
 lists_accesses p (xs ∷ lists) =
-    map-append access_of (events_from p 0 0 (outcomes_of xs)) (events_of_lists (suc p) (map outcomes_of lists))
-    ∙ ap (λ ys. ys ++ map access_of (events_of_lists (suc p) (map outcomes_of lists))) (list_accesses p 0 0 xs)
+    map-append access_of (events_from p 0 0 (logged_outcomes xs)) (events_of_lists (suc p) (map logged_outcomes lists))
+    ∙ ap (λ ys. ys ++ map access_of (events_of_lists (suc p) (map logged_outcomes lists))) (list_accesses p 0 0 xs)
     ∙ ap (λ ys. accesses_of_list xs ++ ys) (lists_accesses (suc p) lists)
 
 module _ (log : NumberedLog) where
@@ -51,7 +51,7 @@ module _ (log : NumberedLog) where
 
   access_at : (k : ℕ) → slice_get accesses k ≡ option_map access_of (event_at (log_operations log) (suc k))
   unfolding event_at events_of
-  access_at k = ap (λ ys. slice_get ys k) (sym (lists_accesses 0 log.lists)) ∙ slice_get-map access_of (events_of_lists 0 (map outcomes_of log.lists)) k
+  access_at k = ap (λ ys. slice_get ys k) (sym (lists_accesses 0 log.lists)) ∙ slice_get-map access_of (events_of_lists 0 (map logged_outcomes log.lists)) k
 
   -- an event of the log is an access
   event_access : (k : ℕ) (e : Event) → event_at (log_operations log) (suc k) ≡ Some e → slice_get accesses k ≡ Some (access_of e)

@@ -16,7 +16,7 @@ use Rattle.log_selections.specs.declared.unwritten.LoggedStore.{LoggedStore}
 use Rattle.log_text.specs.LogValues.{NumberedLog}
 use Rattle.log_selections.specs.declared.shown.Shown.{Shown}
 use Rattle.log_selections.specs.Shown.{IsLineOf}
-use Rattle.log_selections.specs.Unwritten.{IsOperationOf, stored_at, stored_by, stores_to}
+use Rattle.log_selections.specs.Unwritten.{IsOperationOfLog, logged_stores_to, pair_stored_by, stored_at}
 
 -- ---- the first and the last
 
@@ -42,15 +42,15 @@ extreme_all R xs i x end (has, all) = (has, subst (All (R x)) (take_all i xs end
 -- ---- the stores of a log
 
 -- one more processor
-pub stores_more : (lists : List (Vec LoggedOperation)) (a i : ℕ) (d : Vec LoggedOperation) (before after : List LoggedStore) → i < length lists → before ≡ stores_to (take i (rows lists)) a →
-    after ≡ before ++ flat_map (stored_at a) (get_or lists i d).items → after ≡ stores_to (take (i + 1) (rows lists)) a
+pub stores_more : (lists : List (Vec LoggedOperation)) (a i : ℕ) (d : Vec LoggedOperation) (before after : List LoggedStore) → i < length lists → before ≡ logged_stores_to (take i (rows lists)) a →
+    after ≡ before ++ flat_map (stored_at a) (get_or lists i d).items → after ≡ logged_stores_to (take (i + 1) (rows lists)) a
 stores_more lists a i d before after within was is =
     let at : i + 1 ≡ suc i = omega arith in
     let long : i < length (rows lists) = omega (arith, length-map lists (λ (row : Vec LoggedOperation). row.items)) in
     let here : get_or (rows lists) i [] ≡ (get_or lists i d).items = get_or-map (λ (row : Vec LoggedOperation). row.items) lists i d [] within in
     let more : take (i + 1) (rows lists) ≡ take i (rows lists) ++ get_or (rows lists) i [] ∷ [] = ap (λ n. take n (rows lists)) at ∙ take-suc (rows lists) i [] long in
-    is ∙ ap (λ xs. xs ++ flat_map (stored_at a) (get_or lists i d).items) was ∙ ap (λ xs. stores_to (take i (rows lists)) a ++ xs) (sym (append-nil _) ∙ ap (λ x. flat_map (stored_at a) x ++ []) (sym here))
-    ∙ sym (flat_map-append (flat_map (stored_at a)) (take i (rows lists)) (get_or (rows lists) i [] ∷ [])) ∙ sym (ap (λ ls. stores_to ls a) more)
+    is ∙ ap (λ xs. xs ++ flat_map (stored_at a) (get_or lists i d).items) was ∙ ap (λ xs. logged_stores_to (take i (rows lists)) a ++ xs) (sym (append-nil _) ∙ ap (λ x. flat_map (stored_at a) x ++ []) (sym here))
+    ∙ sym (flat_map-append (flat_map (stored_at a)) (take i (rows lists)) (get_or (rows lists) i [] ∷ [])) ∙ sym (ap (λ ls. logged_stores_to ls a) more)
 
 -- an element of what an element gives
 flat_contains : {X Y : Type 0} (f : X → List Y) (xs : List X) (x : X) (y : Y) → Contains xs x → Contains (f x) y → Contains (flat_map f xs) y
@@ -72,7 +72,7 @@ module _ (line : ℕ) (w u : ℕ × ℕ) (is : w ≡ u) where
       let same : (w.0 == u.0) ≡ true = grind (arith, equal, nat_tests) in
       rw same (0, omega arith, ap (store_of line) is)
 
-stored_here : (line : ℕ) (x : LogOperation) (w : ℕ × ℕ) → Contains (stored_by x) w → Contains (map (store_of line) (filter (λ v. v.0 == w.0) (stored_by x))) (store_of line w)
+stored_here : (line : ℕ) (x : LogOperation) (w : ℕ × ℕ) → Contains (pair_stored_by x) w → Contains (map (store_of line) (filter (λ v. v.0 == w.0) (pair_stored_by x))) (store_of line w)
 stored_here line (Ld a r) w (k, within, is) = absurd (omega arith)
 stored_here line (St a v) w has = stored_one line (a, v) w (only (a, v) w has)
 stored_here line (Sw a r v) w has = stored_one line (a, v) w (only (a, v) w has)
@@ -80,14 +80,14 @@ stored_here line Mb w (k, within, is) = absurd (omega arith)
 stored_here line Sb w (k, within, is) = absurd (omega arith)
 
 -- where no store to the address has the value, no operation stores it there
-pub unstored : (log : NumberedLog) (w : ℕ × ℕ) → All (λ s. s.value ≢ w.1) (stores_to log.lists w.0) → (y : LoggedOperation) → IsOperationOf log y → Contains (stored_by y.operation) w → ⊥
+pub unstored : (log : NumberedLog) (w : ℕ × ℕ) → All (λ s. s.value ≢ w.1) (logged_stores_to log.lists w.0) → (y : LoggedOperation) → IsOperationOfLog log y → Contains (pair_stored_by y.operation) w → ⊥
 unfolding store_of
 unstored log w none y (xs, listed, here) has =
-    All-contains (λ s. s.value ≢ w.1) (stores_to log.lists w.0) (store_of y.line w) none
+    All-contains (λ s. s.value ≢ w.1) (logged_stores_to log.lists w.0) (store_of y.line w) none
     (flat_contains (flat_map (stored_at w.0)) log.lists xs (store_of y.line w) listed (flat_contains (stored_at w.0) xs y (store_of y.line w) here (stored_here y.line y.operation w has))) refl
 
 -- a line of a log is an operation of it
-pub line_operation : (log : NumberedLog) (s : Shown) → IsLineOf log.lists s → IsOperationOf log s.logged
+pub line_operation : (log : NumberedLog) (s : Shown) → IsLineOf log.lists s → IsOperationOfLog log s.logged
 line_operation log s here =
     ⊎_elim (λ within. (get_or log.lists s.processor [], Contains-get_or log.lists s.processor [] within, here))
     (λ past. absurd (none (subst (λ xs. Contains xs s.logged) (get_or_past log.lists s.processor [] past) here))) (cases_lt s.processor (length log.lists))

@@ -14,7 +14,7 @@ use Rattle.log_text.specs.LogValues.{NumberedLog, log_operations}
 use Rattle.log_selections.specs.declared.accesses.Access.{Access}
 use Rattle.log_selections.specs.Internal.Accesses.{accesses_of, accesses_of_list, accesses_of_lists}
 use Rattle.log_selections.specs.Internal.Writers.{IsStoreOf}
-use Rattle.log_selections.specs.Unwritten.{read_by, stored_by, IsOperationOf, IsUnwritten}
+use Rattle.log_selections.specs.Unwritten.{read_by, pair_stored_by, IsOperationOfLog, IsUnwrittenOperation}
 use Rattle.log_selections.proofs.KnownFacts.{no_source_at}
 
 -- Value: a load reads what some source wrote
@@ -56,11 +56,11 @@ lists_access (zs ∷ lists) xs y (zero, within, is) has = Contains-append_left (
 lists_access (zs ∷ lists) xs y (suc k, within, is) has = Contains-append_right (accesses_of_list zs) (accesses_of_lists lists) y (lists_access lists xs y (k, omega arith, is) has)
 
 -- the other way round
-stored_access : (x : LogOperation) (y : Access) → Contains (accesses_of x) y → y.load ≡ false → Contains (stored_by x) (y.a, y.value)
+stored_access : (x : LogOperation) (y : Access) → Contains (accesses_of x) y → y.load ≡ false → Contains (pair_stored_by x) (y.a, y.value)
 stored_access (Ld a r) y has store = let is = one _ y has in absurd (cc)
-stored_access (St a v) y has store = let is = one _ y has in subst (λ (z : Access). Contains (stored_by (St a v)) (z.a, z.value)) is (alone (a, v) [])
+stored_access (St a v) y has store = let is = one _ y has in subst (λ (z : Access). Contains (pair_stored_by (St a v)) (z.a, z.value)) is (alone (a, v) [])
 stored_access (Sw a r v) y (zero, within, is) store = absurd cc
-stored_access (Sw a r v) y (suc k, within, is) store = let same = one _ y (k, omega arith, is) in subst (λ (z : Access). Contains (stored_by (Sw a r v)) (z.a, z.value)) same (alone (a, v) [])
+stored_access (Sw a r v) y (suc k, within, is) store = let same = one _ y (k, omega arith, is) in subst (λ (z : Access). Contains (pair_stored_by (Sw a r v)) (z.a, z.value)) same (alone (a, v) [])
 stored_access Mb y (k, within, is) store = absurd (omega arith)
 stored_access Sb y (k, within, is) store = absurd (omega arith)
 
@@ -96,7 +96,7 @@ from_list (zs ∷ lists) y has =
 
 -- ---- logs
 
-pub unwritten_no_order : (log : NumberedLog) (x : LoggedOperation) → IsUnwritten log x → IsConsistent (log_operations log) → ⊥
+pub unwritten_no_order : (log : NumberedLog) (x : LoggedOperation) → IsUnwrittenOperation log x → IsConsistent (log_operations log) → ⊥
 unfolding load_of
 unwritten_no_order log x unwritten =
     let w = unwritten.written in
@@ -106,12 +106,12 @@ unwritten_no_order log x unwritten =
     let none = no_source_at log k w.0 w.1 at unwritten.first (λ j store. unstored w unwritten.unstored j store) in
     no_order (log_operations log) (suc k) none.0 none.1
   where
-    unstored : (w : ℕ × ℕ) → ((y : LoggedOperation) → IsOperationOf log y → Contains (stored_by y.operation) w → ⊥) → (j : ℕ) → IsStoreOf (accesses_of_lists log.lists) (w.0, w.1) j → ⊥
+    unstored : (w : ℕ × ℕ) → ((y : LoggedOperation) → IsOperationOfLog log y → Contains (pair_stored_by y.operation) w → ⊥) → (j : ℕ) → IsStoreOf (accesses_of_lists log.lists) (w.0, w.1) j → ⊥
     unstored w none j (y, at, store, address, value) =
         let has : Contains (accesses_of_lists log.lists) y = (j, slice_get_within (accesses_of_lists log.lists) j y at, got (accesses_of_lists log.lists) j y at) in
         let list = from_list log.lists y has in
         let operation = from_operation list.xs y list.has in
-        none operation.x (list.xs, list.here, operation.here) (subst (Contains (stored_by operation.x.operation)) (λ i. (address i, value i)) (stored_access operation.x.operation y operation.has store))
+        none operation.x (list.xs, list.here, operation.here) (subst (Contains (pair_stored_by operation.x.operation)) (λ i. (address i, value i)) (stored_access operation.x.operation y operation.has store))
       where
         got : (ys : List Access) (j : ℕ) (y : Access) → slice_get ys j ≡ Some y → get_or ys j y ≡ y
         got [] j y at = absurd cc

@@ -23,14 +23,14 @@ abbrev pub IsBelow : ℕ → Shown → Type 0
 IsBelow line s = s.logged.line < line
 
 -- each line is below the next
-pub data IsAscending : List Shown → Type 0 where
-  none : IsAscending []
-  more : (shown : List Shown) (s : Shown) → IsAscending shown → All (IsBelow s.logged.line) shown → IsAscending (shown ++ s ∷ [])
+pub data IsInLineOrder : List Shown → Type 0 where
+  none : IsInLineOrder []
+  more : (shown : List Shown) (s : Shown) → IsInLineOrder shown → All (IsBelow s.logged.line) shown → IsInLineOrder (shown ++ s ∷ [])
 
 -- Operations of these processors, as they stand in the log, and in the order of its lines.
 pub record AreLinesOf (lists : List (List LoggedOperation)) (shown : List Shown) : Type 0 where
   pub here : All (IsLineOf lists) shown
-  pub ascending : IsAscending shown
+  pub ascending : IsInLineOrder shown
 
 -- ---- what they say by themselves
 
@@ -49,12 +49,12 @@ part_of SwapStore Mb = Mb
 part_of SwapStore Sb = Sb
 
 -- what counts of an operation that is shown
-abbrev pub counted : Shown → LoggedOperation
-counted s = record { line = s.logged.line; operation = part_of s.part s.logged.operation }
+abbrev pub counted_operation : Shown → LoggedOperation
+counted_operation s = record { line = s.logged.line; operation = part_of s.part s.logged.operation }
 
 -- what counts of a processor
 abbrev pub counted_of : List Shown → ℕ → List LoggedOperation
-counted_of shown p = map counted (filter (λ s. s.processor == p) shown)
+counted_of shown p = map counted_operation (filter (λ s. s.processor == p) shown)
 
 -- the log that has nothing else: its memory model, first values and processors are those of the log
 abbrev pub log_of_shown : NumberedLog → List Shown → NumberedLog

@@ -22,52 +22,52 @@ read_by Mb = []
 read_by Sb = []
 
 -- the address and the value that it stores
-abbrev pub stored_by : LogOperation → List (ℕ × ℕ)
-stored_by (Ld a r) = []
-stored_by (St a v) = (a, v) ∷ []
-stored_by (Sw a r v) = (a, v) ∷ []
-stored_by Mb = []
-stored_by Sb = []
+abbrev pub pair_stored_by : LogOperation → List (ℕ × ℕ)
+pair_stored_by (Ld a r) = []
+pair_stored_by (St a v) = (a, v) ∷ []
+pair_stored_by (Sw a r v) = (a, v) ∷ []
+pair_stored_by Mb = []
+pair_stored_by Sb = []
 
 -- some processor of the log did this
-abbrev pub IsOperationOf : NumberedLog → LoggedOperation → Type 0
-IsOperationOf log x = (xs : List LoggedOperation) × Contains log.lists xs × Contains xs x
+abbrev pub IsOperationOfLog : NumberedLog → LoggedOperation → Type 0
+IsOperationOfLog log x = (xs : List LoggedOperation) × Contains log.lists xs × Contains xs x
 
 -- The operation read what none stores to the address, and what isn't its first value.
-pub record IsUnwritten (log : NumberedLog) (x : LoggedOperation) : Type 0 where
-  pub here : IsOperationOf log x
+pub record IsUnwrittenOperation (log : NumberedLog) (x : LoggedOperation) : Type 0 where
+  pub here : IsOperationOfLog log x
   pub written : ℕ × ℕ
   pub reads : Contains (read_by x.operation) written
-  pub unstored : (y : LoggedOperation) → IsOperationOf log y → Contains (stored_by y.operation) written → ⊥
+  pub unstored : (y : LoggedOperation) → IsOperationOfLog log y → Contains (pair_stored_by y.operation) written → ⊥
   pub first : first_value log.first written.0 ≢ written.1
 
 -- ---- what was stored to an address
 
 -- the line and the value of a store to the address
 abbrev pub stored_at : ℕ → LoggedOperation → List LoggedStore
-stored_at a x = map (λ w. record { line = x.line; value = w.1 }) (filter (λ w. w.0 == a) (stored_by x.operation))
+stored_at a x = map (λ w. record { line = x.line; value = w.1 }) (filter (λ w. w.0 == a) (pair_stored_by x.operation))
 
 -- the same of all stores to it, one processor after another
-abbrev pub stores_to : List (List LoggedOperation) → ℕ → List LoggedStore
-stores_to lists a = flat_map (flat_map (stored_at a)) lists
+abbrev pub logged_stores_to : List (List LoggedOperation) → ℕ → List LoggedStore
+logged_stores_to lists a = flat_map (flat_map (stored_at a)) lists
 
 -- the one of the least line, if there is one
-abbrev pub IsFirst : List LoggedStore → Option LoggedStore → Type 0
-IsFirst stores None = stores ≡ []
-IsFirst stores (Some s) = Contains stores s × All (λ other. s.line ≤ other.line) stores
+abbrev pub IsFirstStore : List LoggedStore → Option LoggedStore → Type 0
+IsFirstStore stores None = stores ≡ []
+IsFirstStore stores (Some s) = Contains stores s × All (λ other. s.line ≤ other.line) stores
 
 -- that of the greatest line
-abbrev pub IsLast : List LoggedStore → Option LoggedStore → Type 0
-IsLast stores None = stores ≡ []
-IsLast stores (Some s) = Contains stores s × All (λ other. other.line ≤ s.line) stores
+abbrev pub IsLastStore : List LoggedStore → Option LoggedStore → Type 0
+IsLastStore stores None = stores ≡ []
+IsLastStore stores (Some s) = Contains stores s × All (λ other. other.line ≤ s.line) stores
 
 -- A line of the log that read what nothing wrote, and how many stores there are to its address, the first of them and the last.
 pub record IsUnwrittenLoad (log : NumberedLog) (load : UnwrittenLoad) : Type 0 where
   pub here : IsLineOf log.lists load.shown
-  pub unwritten : IsUnwritten log load.shown.logged
-  pub count : load.stores ≡ length (stores_to log.lists unwritten.written.0)
-  pub first : IsFirst (stores_to log.lists unwritten.written.0) load.first
-  pub last : IsLast (stores_to log.lists unwritten.written.0) load.last
+  pub unwritten : IsUnwrittenOperation log load.shown.logged
+  pub count : load.stores ≡ length (logged_stores_to log.lists unwritten.written.0)
+  pub first : IsFirstStore (logged_stores_to log.lists unwritten.written.0) load.first
+  pub last : IsLastStore (logged_stores_to log.lists unwritten.written.0) load.last
 
 -- ---- such a load alone
 

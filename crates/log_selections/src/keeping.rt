@@ -2,7 +2,7 @@
 ghost use Rattle.std.specs.Prelude.{◌≡◌, ◌++◌, ◌∷◌, [], ℕ, List, map, true, length, IfOk, IfSome, OnOk, Some, slice_get};
 ghost use Rattle.tso_ops.specs.Values.{rows};
 ghost use Rattle.log_selections.specs.Cuts.{AreCutFrom, IsKept};
-ghost use Rattle.log_text.specs.LogValues.{outcome_of, outcomes_of};
+ghost use Rattle.log_text.specs.LogValues.{logged_outcome, logged_outcomes};
 ghost use Rattle.log_selections.specs.Internal.Accesses.{numbers_of_lists};
 ghost use Rattle.log_selections.specs.Internal.Keeping.{IsKeptOf, numbers_in};
 
@@ -39,7 +39,7 @@ pub(crate) fn keep_lists(
     origins: &mut Vec<usize>,
 ) -> Result<Option<Vec<Vec<Outcome>>>, OutOfMemory>
     ensures { IfOk result (λ found. IfSome found (λ outcomes. origins.old.items ≡ [] → rows numbers.now ≡ numbers_of_lists 1 (rows lists.now) →
-        AreCutFrom addresses.now 1 (map outcomes_of (rows lists.now)) (rows outcomes.items) origins.new.items)) }
+        AreCutFrom addresses.now 1 (map logged_outcomes (rows lists.now)) (rows outcomes.items) origins.new.items)) }
 {
     let mut outcomes = Vec::new(alloc);
     for (p, list) in lists.iter().enumerate() {
@@ -98,7 +98,7 @@ fn origins_of(
     operation: LogOperation,
     outcome: Outcome,
 ) -> Option<Origins>
-    ensures { IfSome result (λ origins. IsKept addresses.now number (outcome_of operation) (outcome ∷ []) (numbers_in origins)) }
+    ensures { IfSome result (λ origins. IsKept addresses.now number (logged_outcome operation) (outcome ∷ []) (numbers_in origins)) }
 {
     let store = number.checked_add(1)?;
     match (operation, outcome) {

@@ -2,7 +2,7 @@
 ghost use Rattle.std.specs.Prelude.{◌≡◌, [], IfOk, IfSome, get_or, map};
 ghost use Rattle.std.specs.List.{Contains, range_with_len};
 ghost use Rattle.tso_ops.specs.Values.{rows};
-ghost use Rattle.log_selections.specs.Shown.{AreLinesOf, IsLineOf, counted, counted_of, part_of};
+ghost use Rattle.log_selections.specs.Shown.{AreLinesOf, IsLineOf, counted_of, counted_operation, part_of};
 
 use log_text::{LogOperation, LoggedOperation};
 use std::alloc::Global;
@@ -149,7 +149,7 @@ fn count_list(alloc: Global, shown: &[Shown], p: usize) -> Result<Vec<LoggedOper
 
 /// What counts of an operation.
 fn counted(shown: Shown) -> LoggedOperation
-    ensures { result ≡ counted shown }
+    ensures { result ≡ counted_operation shown }
 {
     LoggedOperation {
         line: shown.logged.line,

@@ -9,7 +9,8 @@ use tso_ops::{Source, Trace};
 /// Whether each load of the trace reads from where it is known to read in the log, by the numbers of the trace's events in
 /// the log and the log's sources.
 pub(crate) fn keeps_sources(trace: &Trace, origins: &[usize], sources: &[Option<usize>]) -> bool
-    ensures { result ≡ true → (l : ℕ) → IsLoad trace.now l → (s : ℕ) × HasSource trace.now l s × (source_in sources.now (origin_in origins.now l) ≡ Some (origin_in origins.now s)) }
+    ensures { result ≡ true → (l : ℕ) → IsLoad trace.now l →
+        (s : ℕ) × HasSource trace.now l s × (source_in sources.now (origin_in origins.now l) ≡ Some (origin_in origins.now s)) }
 {
     for k in 0..trace.events() {
         match trace.source(k + 1) {

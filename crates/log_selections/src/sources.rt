@@ -88,7 +88,8 @@ fn source_of(
     values: &HashMap<u64, u64>,
     load: Access,
 ) -> LoadSource
-    ensures { (first : List (ℕ × ℕ)) (accesses : List Access) → FindsWriters accesses (length accesses) writers.now → ((a : ℕ) → unwrap_or (get nat_eq values.now a) 0 ≡ first_value first a) →
+    ensures { (first : List (ℕ × ℕ)) (accesses : List Access) → FindsWriters accesses (length accesses) writers.now →
+        ((a : ℕ) → unwrap_or (get nat_eq values.now a) 0 ≡ first_value first a) →
         IsFound first accesses (load.a, load.value) result }
 {
     let first = values.get(&load.a).copied().unwrap_or(0);

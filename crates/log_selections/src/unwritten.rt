@@ -4,7 +4,7 @@ ghost use Rattle.std.specs.List.{All, flat_map};
 ghost use Rattle.tso_ops.specs.Settings.{first_value};
 ghost use Rattle.tso_ops.specs.Values.{rows};
 ghost use Rattle.log_selections.specs.Shown.{IsLineOf};
-ghost use Rattle.log_selections.specs.Unwritten.{IsFirst, IsLast, IsUnwrittenLoad, read_by, stored_at, stores_to};
+ghost use Rattle.log_selections.specs.Unwritten.{IsFirstStore, IsLastStore, IsUnwrittenLoad, logged_stores_to, read_by, stored_at};
 
 use crate::known::KnownLog;
 use crate::shown::{Shown, logged_at};
@@ -105,7 +105,7 @@ fn stores_to(
     lists: &[Vec<LoggedOperation>],
     a: u64,
 ) -> Result<Vec<LoggedStore>, OutOfMemory>
-    ensures { IfOk result (λ stores. stores.items ≡ stores_to (rows lists.now) a) }
+    ensures { IfOk result (λ stores. stores.items ≡ logged_stores_to (rows lists.now) a) }
 {
     let mut stores = Vec::new(alloc);
     for list in lists {
@@ -167,7 +167,7 @@ fn has_value(stores: &[LoggedStore], value: u64) -> bool
 
 /// The store of the least line.
 fn first_store(stores: &[LoggedStore]) -> Option<LoggedStore>
-    ensures { IsFirst stores.now result }
+    ensures { IsFirstStore stores.now result }
 {
     let mut first = *stores.first()?;
     for store in stores {
@@ -178,7 +178,7 @@ fn first_store(stores: &[LoggedStore]) -> Option<LoggedStore>
 
 /// The store of the greatest line.
 fn last_store(stores: &[LoggedStore]) -> Option<LoggedStore>
-    ensures { IsLast stores.now result }
+    ensures { IsLastStore stores.now result }
 {
     let mut last = *stores.first()?;
     for store in stores {

@@ -159,7 +159,7 @@ pub record SpellsLog (text : List ℕ) (log : NumberedLog) : Type 0 where
   pub is : log ≡ log_of_lines lines
 
 -- The text has a line `end`: it consists of lines, each with its line end, and they say a log that has one.
-pub record IsEnded (text : List ℕ) : Type 0 where
+pub record IsEndedLog (text : List ℕ) : Type 0 where
   pub texts : List (List ℕ)
   pub lines : List LogLine
   pub whole : parts_of text ≡ texts ++ [] ∷ []
@@ -168,7 +168,7 @@ pub record IsEnded (text : List ℕ) : Type 0 where
 
 -- where a text needs a line `end`, it has one
 abbrev pub IsEndedAsNeeded : Bool → List ℕ → Type 0
-IsEndedAsNeeded needs_end text = needs_end ≡ true → IsEnded text
+IsEndedAsNeeded needs_end text = needs_end ≡ true → IsEndedLog text
 
 -- A part of a text is refused after these lines: it says nothing, it has a fault, or it is the last part and no line end follows it, or none of the lines
 -- is an `end` that the text needs.

@@ -21,16 +21,16 @@ abbrev pub log_value : Log → NumberedLog
 log_value log = record { order = log.order; first = log.first.items; lists = rows log.lists.items; left_out = log.left_out }
 
 -- The operation as one of a trace: a log's has any address of 64 bits.
-abbrev pub outcome_of : LogOperation → Outcome
-outcome_of (Ld a r) = OutcomeLd a r
-outcome_of (St a v) = OutcomeSt a v
-outcome_of (Sw a r v) = OutcomeSw a r v
-outcome_of Mb = OutcomeMb
-outcome_of Sb = OutcomeSb
+abbrev pub logged_outcome : LogOperation → Outcome
+logged_outcome (Ld a r) = OutcomeLd a r
+logged_outcome (St a v) = OutcomeSt a v
+logged_outcome (Sw a r v) = OutcomeSw a r v
+logged_outcome Mb = OutcomeMb
+logged_outcome Sb = OutcomeSb
 
-abbrev pub outcomes_of : List LoggedOperation → List Outcome
-outcomes_of operations = map (λ x. outcome_of x.operation) operations
+abbrev pub logged_outcomes : List LoggedOperation → List Outcome
+logged_outcomes operations = map (λ x. logged_outcome x.operation) operations
 
 -- The log's memory model and first values, and the operations of each processor. No limit of a trace holds of them.
 abbrev pub log_operations : NumberedLog → TraceValue
-log_operations log = trace_of_lists (setting_of_first log.order log.first) (map outcomes_of log.lists)
+log_operations log = trace_of_lists (setting_of_first log.order log.first) (map logged_outcomes log.lists)

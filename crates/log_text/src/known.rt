@@ -55,7 +55,8 @@ fn operations_elsewhere(
     list: &[LoggedOperation],
     addresses: &HashSet<u64>,
 ) -> Result<Vec<LoggedOperation>, OutOfMemory>
-    ensures { IfOk result (λ left. (all : List ℕ) → ((a : ℕ) → contains nat_eq addresses.now a ≡ list_any (nat_eq a) all) → left.items ≡ without_addresses all list.now) }
+    ensures { IfOk result (λ left. (all : List ℕ) → ((a : ℕ) → contains nat_eq addresses.now a ≡ list_any (nat_eq a) all) →
+        left.items ≡ without_addresses all list.now) }
 {
     let mut left = Vec::new(alloc);
     for logged in list {

@@ -8,5 +8,6 @@ ghost use Rattle.log_text.specs.LogTexts.{IsEndedAsNeeded, SpellsLog, IsLogRefus
 /// A text spells one log at most, and one that is refused spells none, or lacks the line `end` that it needs.
 pub fn texts()
     ensures one_log { (text : List ℕ) (t u : NumberedLog) → SpellsLog text t → SpellsLog text u → t ≡ u }
-    ensures never_both { (needs_end : Bool) (text : List ℕ) (t : NumberedLog) (line : ℕ) (why : Why) → SpellsLog text t → IsEndedAsNeeded needs_end text → IsLogRefusal needs_end text line why → ⊥ }
+    ensures never_both { (needs_end : Bool) (text : List ℕ) (t : NumberedLog) (line : ℕ) (why : Why) → SpellsLog text t →
+        IsEndedAsNeeded needs_end text → IsLogRefusal needs_end text line why → ⊥ }
 {}

@@ -34,7 +34,8 @@ use tso_text::{TextFault, Why, fault_of};
 pub fn read_log(alloc: Global, text: &[u8], needs_end: bool) -> Result<Log, TextFault>
     ensures found { IfOk result (λ log. SpellsLog text.now (log_value log)) }
     ensures ended { IfOk result (λ _. IsEndedAsNeeded needs_end text.now) }
-    ensures only { (t : NumberedLog) → SpellsLog text.now t → IsEndedAsNeeded needs_end text.now → MatchResult result (λ log. log_value log ≡ t) (λ fault. fault.why ≡ Why.OutOfMemory) }
+    ensures only { (t : NumberedLog) → SpellsLog text.now t → IsEndedAsNeeded needs_end text.now →
+        MatchResult result (λ log. log_value log ≡ t) (λ fault. fault.why ≡ Why.OutOfMemory) }
     ensures refused { IfErr result (λ fault. fault.why ≢ Why.OutOfMemory → IsLogRefusal needs_end text.now fault.line fault.why) }
     ensures memory { IfErr result (λ fault. fault.why ≡ Why.OutOfMemory → fault.line ≡ 0) }
 {

@@ -6,7 +6,7 @@ use Rattle.tso_model.specs.Axioms.{IsMemoryOrder, IsModelOrder}
 use Rattle.order_check.specs.declared.faults.Axiom.{Axiom}
 use Rattle.order_check.specs.declared.faults.Axiom.TheVariants.{LoadOp, StoreStore, Stbar, Membar, Atomicity, Value}
 use Rattle.order_check.specs.Refusals.{axiom_number, IsFirstUnmet, MeetsAll, MeetsAt}
-use Rattle.order_check.proofs.SwapOrder.{swap_earlier}
+use Rattle.tso_ops.proofs.SwapFacts.{IsSwapLoad-earlier}
 
 -- the axioms in the order in which they are looked at
 abbrev pub axioms : List Axiom
@@ -74,7 +74,7 @@ model_order t order memory met = record {
   store_store = λ u v first second earlier keeps. met v (second.0, second.1) StoreStore u first second earlier keeps;
   stbar = λ u v first second earlier fewer. met v (second.0, second.1) Stbar u first second earlier fewer;
   membar = λ u v first second earlier fewer. met v (second.0, second.1) Membar u first second earlier fewer;
-  swap = λ l swap. (let earlier = swap_earlier t l swap in met (suc l) (earlier.1, earlier.3) LoadOp l (swap.0, swap.1, swap.2) earlier);
+  swap = λ l swap. (let earlier = IsSwapLoad-earlier t l swap in met (suc l) (earlier.1, earlier.3) LoadOp l (swap.0, swap.1, swap.2) earlier);
   atomicity = λ l s swap store other. met s (store.0, store.1) Atomicity l swap store other;
   value = λ l load. met l (load.0, load.1) Value load;
 }

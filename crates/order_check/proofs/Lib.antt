@@ -6,5 +6,4 @@ pub mod PlaceFacts
 pub mod ProgressFacts
 pub mod RefusalExists
 pub mod RefusalFacts
-pub mod SwapOrder
 pub mod ValueFacts

@@ -8,10 +8,10 @@ use Rattle.tso_ops.specs.Events.{events_of, event_at, event_total, IsEvent}
 use Rattle.tso_ops.proofs.NumberFacts.{event_above_zero, IsEvent-within}
 use Rattle.tso_model.specs.Axioms.{occurrences, place}
 use Rattle.tso_model.proofs.Decided.{IsEvent-decided}
-use Rattle.tso_model.proofs.Places.{place-here}
+use Rattle.tso_model.proofs.Places.{place-here, occurrences-append, occurrences-other, occurrences-same, place-listed, place-past}
 use Rattle.order_check.specs.Refusals.{AreDistinct, AreEvents, IsFirst, IsMissing, IsRepeatedAt, IsNoEventAt}
 use Rattle.order_check.specs.Internal.Places.{ArePlaces, HasPlaces, TellsPlace}
-use Rattle.order_check.proofs.ListFacts.{listed_at, occurs_twice, occurrences-append, occurrences-other, occurrences-same, place-listed, place-past}
+use Rattle.order_check.proofs.ListFacts.{listed_at, occurs_twice}
 
 some_at : {X : Type 0} (xs : List X) (k : ℕ) → k < length xs → (x : X) × (slice_get xs k ≡ Some x)
 some_at [] k within = absurd (omega arith)

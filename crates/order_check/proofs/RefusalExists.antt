@@ -9,7 +9,7 @@ use Rattle.tso_ops.proofs.NumberFacts.{IsEvent-within, IsLoad-within, IsStore-wi
 use Rattle.tso_ops.proofs.SwapFacts.{IsSwapLoad-within}
 use Rattle.tso_cert.specs.declared.rules.BaseRule.TheVariants.{LoadOp as LoadOpRule, StoreStore as StoreStoreRule, Stbar as StbarRule, Membar as MembarRule}
 use Rattle.tso_model.specs.Axioms.{occurrences, place, IsMemoryOrder, IsModelOrder, IsUpTo, IsVisible, ReadsGreatest}
-use Rattle.tso_model.proofs.Places.{occurrences-later}
+use Rattle.tso_model.proofs.Places.{occurrences-later, occurrences-cons, occurrences-same}
 use Rattle.tso_model.proofs.Decided.{BasePair-decided, Earlier-decided, HasFirstValue-decided, IsEvent-decided, IsLoad-decided, IsStore-decided, IsSwapLoad-decided, SameAddress-decided, SameValue-decided}
 use Rattle.order_check.specs.declared.faults.Axiom.{Axiom}
 use Rattle.order_check.specs.declared.faults.Axiom.TheVariants.{LoadOp, StoreStore, Stbar, Membar, Atomicity, Value}
@@ -17,7 +17,7 @@ use Rattle.order_check.specs.declared.faults.OrderFault.{OrderFault}
 use Rattle.order_check.specs.declared.faults.OrderFault.TheVariants.{NotAnEvent, Repeated, Missing, Broken}
 use Rattle.order_check.specs.Refusals.{AreDistinct, AreEvents, IsFirstUnmet, IsMissing, IsOrderRefusal, IsRepeatedAt, IsNoEventAt, MeetsAll, MeetsAt}
 use Rattle.order_check.proofs.AxiomFacts.{all_met, axioms, first_unmet_is, model_order, nothing_unmet}
-use Rattle.order_check.proofs.ListFacts.{listed_at, occurs_at, occurrences-cons, occurrences-same, place_once}
+use Rattle.order_check.proofs.ListFacts.{listed_at, occurs_at, place_once}
 
 -- ---- what is decided
 

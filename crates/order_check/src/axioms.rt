@@ -4,7 +4,7 @@ ghost use Rattle.bitsets.specs.Rows.{HasNumber, IsMask};
 ghost use Rattle.tso_ops.specs.Events.{IsStore, IsSwapLoad, KeepsStores, event_at};
 ghost use Rattle.tso_model.specs.Axioms.{place};
 ghost use Rattle.order_check.specs.Refusals.{IsFirstUnmet, MeetsAll, MeetsAt};
-ghost use Rattle.order_check.specs.Internal.Progress.{HasJustPassed};
+ghost use Rattle.order_check.specs.Internal.Progress.{HasJustPassed, IsAnswerAt};
 ghost use Rattle.order_check.specs.Internal.Seen.{IsLastSeen, IsSeen};
 
 use crate::faults::Axiom;
@@ -15,7 +15,8 @@ use tso_ops::{Event, Order, Source, Trace};
 
 /// The first axiom that isn't met at event `n`, or None where all are.
 pub(crate) fn first_unmet(trace: &Trace, progress: &Progress, n: usize) -> Option<Axiom>
-    ensures { (order : List ℕ) → HasJustPassed trace.now order n progress.now → MatchOption result (MeetsAll trace.now order n) (IsFirstUnmet trace.now order n) }
+    ensures { (order : List ℕ) → HasJustPassed trace.now order n progress.now →
+        MatchOption result (MeetsAll trace.now order n) (IsFirstUnmet trace.now order n) }
 {
     let event = trace.event(n)?;
     for k in 0..Axiom::ALL.len() {
@@ -29,7 +30,7 @@ pub(crate) fn first_unmet(trace: &Trace, progress: &Progress, n: usize) -> Optio
 
 /// Whether this axiom is met at the event.
 fn is_met(trace: &Trace, progress: &Progress, law: Axiom, n: usize, event: Event) -> bool
-    ensures { (order : List ℕ) → HasJustPassed trace.now order n progress.now → event_at trace.now n ≡ Some event → IsTrue result ↔ MeetsAt trace.now order law n }
+    ensures { IsAnswerAt trace.now progress.now n event result (λ order. MeetsAt trace.now order law n) }
 {
     match law {
         Axiom::LoadOp => is_load_op_met(trace, progress, n, event),
@@ -43,7 +44,7 @@ fn is_met(trace: &Trace, progress: &Progress, law: Axiom, n: usize, event: Event
 
 /// Whether no program-earlier load is left.
 fn is_load_op_met(trace: &Trace, progress: &Progress, v: usize, event: Event) -> bool
-    ensures { (order : List ℕ) → HasJustPassed trace.now order v progress.now → event_at trace.now v ≡ Some event → IsTrue result ↔ MeetsAt trace.now order Axiom.LoadOp v }
+    ensures { IsAnswerAt trace.now progress.now v event result (λ order. MeetsAt trace.now order Axiom.LoadOp v) }
 {
     let own = trace.processor_words(event.proc);
     let loads = Chosen {
@@ -56,7 +57,7 @@ fn is_load_op_met(trace: &Trace, progress: &Progress, v: usize, event: Event) ->
 
 /// Whether, where the event is a store, no program-earlier store is left whose order with it the memory model keeps.
 fn is_store_store_met(trace: &Trace, progress: &Progress, v: usize, event: Event) -> bool
-    ensures { (order : List ℕ) → HasJustPassed trace.now order v progress.now → event_at trace.now v ≡ Some event → IsTrue result ↔ MeetsAt trace.now order Axiom.StoreStore v }
+    ensures { IsAnswerAt trace.now progress.now v event result (λ order. MeetsAt trace.now order Axiom.StoreStore v) }
 {
     if event.load {
         return true;
@@ -81,7 +82,7 @@ fn kept_stores(trace: &Trace, event: Event) -> &[u64]
 
 /// Whether, where the event is a store, no program-earlier store before an STBAR is left: one that fewer STBARs stand before.
 fn is_stbar_met(trace: &Trace, progress: &Progress, v: usize, event: Event) -> bool
-    ensures { (order : List ℕ) → HasJustPassed trace.now order v progress.now → event_at trace.now v ≡ Some event → IsTrue result ↔ MeetsAt trace.now order Axiom.Stbar v }
+    ensures { IsAnswerAt trace.now progress.now v event result (λ order. MeetsAt trace.now order Axiom.Stbar v) }
 {
     if event.load {
         return true;
@@ -96,7 +97,7 @@ fn is_stbar_met(trace: &Trace, progress: &Progress, v: usize, event: Event) -> b
 
 /// Whether, where the event is a load, no program-earlier store before a barrier is left: one that fewer barriers stand before.
 fn is_membar_met(trace: &Trace, progress: &Progress, v: usize, event: Event) -> bool
-    ensures { (order : List ℕ) → HasJustPassed trace.now order v progress.now → event_at trace.now v ≡ Some event → IsTrue result ↔ MeetsAt trace.now order Axiom.Membar v }
+    ensures { IsAnswerAt trace.now progress.now v event result (λ order. MeetsAt trace.now order Axiom.Membar v) }
 {
     if !event.load {
         return true;
@@ -126,7 +127,7 @@ fn is_no_swap_open(trace: &Trace, left: &[u64]) -> bool
 /// Whether, where the event is a load, it read what the last store that it sees wrote: its source is the only store that can be
 /// that one, since no two stores have one value.
 fn is_value_met(trace: &Trace, progress: &Progress, l: usize, event: Event) -> bool
-    ensures { (order : List ℕ) → HasJustPassed trace.now order l progress.now → event_at trace.now l ≡ Some event → IsTrue result ↔ MeetsAt trace.now order Axiom.Value l }
+    ensures { IsAnswerAt trace.now progress.now l event result (λ order. MeetsAt trace.now order Axiom.Value l) }
 {
     match trace.source(l) {
         None => true,
@@ -147,7 +148,7 @@ fn is_seen(trace: &Trace, progress: &Progress, l: usize, s: usize) -> bool
 
 /// Whether no store that the load sees stands after number `s`, its source. The first values, number 0, stand before all.
 fn is_last_seen(trace: &Trace, progress: &Progress, l: usize, event: Event, s: usize) -> bool
-    ensures { (order : List ℕ) → HasJustPassed trace.now order l progress.now → event_at trace.now l ≡ Some event → IsTrue result ↔ IsLastSeen trace.now order progress.now.places.items l s }
+    ensures { IsAnswerAt trace.now progress.now l event result (λ order. IsLastSeen trace.now order progress.now.places.items l s) }
 {
     let most = progress.place(s);
     let own = Chosen {

@@ -16,7 +16,8 @@ pub(crate) struct Chosen<'a> {
 
 /// Whether each number of the set up to `n` that isn't passed has a place up to `most`.
 pub(crate) fn left_are_up_to(progress: &Progress, chosen: Chosen, n: usize, most: usize) -> bool
-    ensures { IsTrue result ↔ ((u : ℕ) → IsLeftIn progress.now.left.items chosen.entry.one.now chosen.entry.two.now chosen.entry.other.now n u → slice_index progress.now.places.items u ≤ most) }
+    ensures { IsTrue result ↔ ((u : ℕ) → IsLeftIn progress.now.left.items chosen.entry.one.now chosen.entry.two.now chosen.entry.other.now n u →
+        slice_index progress.now.places.items u ≤ most) }
 {
     for j in 0..n / 64 + 1 {
         let word = left_word(progress.left(), chosen, n, j);

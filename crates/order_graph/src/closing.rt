@@ -15,7 +15,8 @@ pub fn note_closed(row: &mut [u64], upto: &[u64], tables: Tables, x: usize)
     requires upto_row { tables.width ≤ length upto.now }
     requires edges_row { x * tables.width + tables.width ≤ length tables.edges.now }
     requires transposed_row { x * tables.width + tables.width ≤ length tables.transposed.now }
-    ensures { Adds row.old row.new tables.entry.width (λ i y. (i ≡ 0) × IsSet tables.entry.edges.now tables.entry.width x y × IsSet tables.entry.transposed.now tables.entry.width x y × IsSet upto.now tables.entry.width 0 y) }
+    ensures { Adds row.old row.new tables.entry.width (λ i y. (i ≡ 0) × IsSet tables.entry.edges.now tables.entry.width x y
+        × IsSet tables.entry.transposed.now tables.entry.width x y × IsSet upto.now tables.entry.width 0 y) }
 {
     for j in 0..tables.width {
         let given = tables.edges[x * tables.width + j]
@@ -29,7 +30,8 @@ pub fn note_closed(row: &mut [u64], upto: &[u64], tables: Tables, x: usize)
 /// the least number of a cycle.
 pub fn closed_numbers(alloc: Global, tables: Tables) -> Result<Vec<u64>, AllocError>
     requires keeps { KeepsAllPaths tables.nodes tables.width tables.edges.now tables.paths.now tables.transposed.now }
-    ensures { IfOk result (λ row. (length row.items ≡ tables.entry.width) × ((y : ℕ) → y / 64 < tables.entry.width → IsSet row.items tables.entry.width 0 y ↔ IsClosedNumber tables.entry.edges.now tables.entry.transposed.now tables.entry.width tables.entry.nodes y)) }
+    ensures { IfOk result (λ row. (length row.items ≡ tables.entry.width) × ((y : ℕ) → y / 64 < tables.entry.width →
+        IsSet row.items tables.entry.width 0 y ↔ IsClosedNumber tables.entry.edges.now tables.entry.transposed.now tables.entry.width tables.entry.nodes y)) }
 {
     let paths = BitTable {
         words: tables.paths,
@@ -61,7 +63,8 @@ pub fn spread(
     requires row { edges.width ≤ length reached.old }
     requires level { count * edges.width + edges.width ≤ length levels.now }
     requires within { (x : ℕ) → x / 64 < edges.width → IsSet levels.now edges.width count x → x < nodes }
-    ensures { Adds reached.old reached.new edges.entry.width (λ r y. (r ≡ 0) × (first ≤ y / 64) × IsNext edges.entry.words.now levels.now edges.entry.width count first y) }
+    ensures { Adds reached.old reached.new edges.entry.width
+        (λ r y. (r ≡ 0) × (first ≤ y / 64) × IsNext edges.entry.words.now levels.now edges.entry.width count first y) }
 {
     for i in first..edges.width {
         let rows = levels[count * edges.width + i];
@@ -83,9 +86,12 @@ pub fn advance(
     requires seen_row { transposed.width ≤ length seen.old }
     requires reached_row { transposed.width ≤ length reached.now }
     requires start_row { start * transposed.width + transposed.width ≤ length transposed.words.now }
-    ensures level { Adds levels.old levels.new transposed.entry.width (λ i y. (i ≡ row) × (start / 64 ≤ y / 64) × IsUnseen reached.now transposed.entry.words.now seen.old transposed.entry.width start y) }
-    ensures seen { Adds seen.old seen.new transposed.entry.width (λ i y. (i ≡ 0) × (start / 64 ≤ y / 64) × IsSet reached.now transposed.entry.width 0 y × IsSet transposed.entry.words.now transposed.entry.width start y) }
-    ensures some { (y : ℕ) → y / 64 < transposed.entry.width → start / 64 ≤ y / 64 → IsUnseen reached.now transposed.entry.words.now seen.old transposed.entry.width start y → IsTrue result }
+    ensures level { Adds levels.old levels.new transposed.entry.width
+        (λ i y. (i ≡ row) × (start / 64 ≤ y / 64) × IsUnseen reached.now transposed.entry.words.now seen.old transposed.entry.width start y) }
+    ensures seen { Adds seen.old seen.new transposed.entry.width (λ i y. (i ≡ 0) × (start / 64 ≤ y / 64)
+        × IsSet reached.now transposed.entry.width 0 y × IsSet transposed.entry.words.now transposed.entry.width start y) }
+    ensures some { (y : ℕ) → y / 64 < transposed.entry.width → start / 64 ≤ y / 64 →
+        IsUnseen reached.now transposed.entry.words.now seen.old transposed.entry.width start y → IsTrue result }
 {
     let mut all = 0;
     for j in start / 64..transposed.width {

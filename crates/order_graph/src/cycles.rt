@@ -58,8 +58,10 @@ pub fn better(
     requires sized { length passed.now ≡ tables.width }
     requires passed { (y : ℕ) → y / 64 < tables.width → IsSet passed.now tables.width 0 y ↔ (y < start) }
     requires closed_row { length closed.now ≡ tables.width }
-    requires closed { (y : ℕ) → y / 64 < tables.width → IsSet closed.now tables.width 0 y ↔ IsClosedNumber tables.edges.now tables.transposed.now tables.width tables.nodes y }
-    requires best { MatchOption best (NoCycleBefore (Joined tables.edges.now tables.width tables.nodes) start) (λ cycle. IsLeastCycleBefore (Joined tables.edges.now tables.width tables.nodes) start cycle.items) }
+    requires closed { (y : ℕ) → y / 64 < tables.width → IsSet closed.now tables.width 0 y ↔
+        IsClosedNumber tables.edges.now tables.transposed.now tables.width tables.nodes y }
+    requires best { MatchOption best (NoCycleBefore (Joined tables.edges.now tables.width tables.nodes) start)
+        (λ cycle. IsLeastCycleBefore (Joined tables.edges.now tables.width tables.nodes) start cycle.items) }
     ensures { IfOk result (λ found. MatchOption found (NoCycleBefore (Joined tables.entry.edges.now tables.entry.width tables.entry.nodes) (start + 1)) (λ cycle. IsLeastCycleBefore (Joined tables.entry.edges.now tables.entry.width tables.entry.nodes) (start + 1) cycle.items)) }
 {
     let closed_row = BitTable {

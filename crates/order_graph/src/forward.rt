@@ -12,7 +12,8 @@ use std::alloc::{AllocError, Global};
 pub fn copied_row(alloc: Global, table: BitTable, x: usize) -> Result<Vec<u64>, AllocError>
     requires row { x * table.width + table.width ≤ length table.words.now }
     ensures sized { IfOk result (λ row. length row.items ≡ table.entry.width) }
-    ensures bits { IfOk result (λ row. (y : ℕ) → y / 64 < table.entry.width → IsSet row.items table.entry.width 0 y ↔ IsSet table.entry.words.now table.entry.width x y) }
+    ensures bits { IfOk result (λ row. (y : ℕ) → y / 64 < table.entry.width → IsSet row.items table.entry.width 0 y ↔
+        IsSet table.entry.words.now table.entry.width x y) }
 {
     let mut row = vec![in alloc; 0; table.width]?;
     or_row(&mut row, 0, table, x, 0);
@@ -28,7 +29,8 @@ pub fn expand(reached: &mut [u64], left: &mut [u64], edges: BitTable, mask: &[u6
     requires mask_row { edges.width ≤ length mask.now }
     requires edges_row { x * edges.width + edges.width ≤ length edges.words.now }
     ensures reached { Adds reached.old reached.new edges.entry.width (λ i y. (i ≡ 0) × IsMaskedEdge edges.entry.words.now mask.now edges.entry.width x y) }
-    ensures left { Adds left.old left.new edges.entry.width (λ i y. (i ≡ 0) × IsMaskedEdge edges.entry.words.now mask.now edges.entry.width x y × (IsSet reached.old edges.entry.width 0 y → ⊥)) }
+    ensures left { Adds left.old left.new edges.entry.width
+        (λ i y. (i ≡ 0) × IsMaskedEdge edges.entry.words.now mask.now edges.entry.width x y × (IsSet reached.old edges.entry.width 0 y → ⊥)) }
 {
     for j in 0..edges.width {
         let given = edges.words[x * edges.width + j] & mask[j];
@@ -63,7 +65,8 @@ pub fn reached_row(
     requires within { (x y : ℕ) → x < nodes → y / 64 < edges.width → IsSet edges.words.now edges.width x y → y < nodes }
     requires mask { edges.width ≤ length mask.now }
     requires from { u < nodes }
-    ensures { IfOk result (λ row. (length row.items ≡ edges.entry.width) × ((y : ℕ) → y / 64 < edges.entry.width → IsSet row.items edges.entry.width 0 y ↔ Reaches (JoinedWithin edges.entry.words.now mask.now edges.entry.width nodes) u y)) }
+    ensures { IfOk result (λ row. (length row.items ≡ edges.entry.width) × ((y : ℕ) → y / 64 < edges.entry.width →
+        IsSet row.items edges.entry.width 0 y ↔ Reaches (JoinedWithin edges.entry.words.now mask.now edges.entry.width nodes) u y)) }
 {
     let mut reached = vec![in alloc; 0; edges.width]?;
     let mut left = vec![in alloc; 0; edges.width]?;
@@ -85,7 +88,8 @@ pub fn tests_of_row(
     requires fits { table.width ≡ (nodes + 63) / 64 }
     requires row { x * table.width + table.width ≤ length table.words.now }
     ensures sized { IfOk result (λ tests. length tests.items ≡ nodes) }
-    ensures tests { IfOk result (λ tests. (y : ℕ) → IsTrue (slice_index_or tests.items y false) ↔ ((y < nodes) × IsSet table.entry.words.now table.entry.width x y)) }
+    ensures tests { IfOk result (λ tests. (y : ℕ) → IsTrue (slice_index_or tests.items y false) ↔
+        ((y < nodes) × IsSet table.entry.words.now table.entry.width x y)) }
 {
     let mut tests = Vec::new(alloc);
     for y in 0..nodes {

@@ -12,7 +12,8 @@ pub fn mark_grown(grown: &mut [u64], transposed: BitTable, u: usize, v: usize)
     requires size { length grown.old ≡ transposed.width }
     requires from { u * transposed.width + transposed.width ≤ length transposed.words.now }
     requires to { v * transposed.width + transposed.width ≤ length transposed.words.now }
-    ensures { Adds grown.old grown.new transposed.entry.width (λ i x. (i ≡ 0) × IsSelfOrSet transposed.entry.words.now transposed.entry.width u x × (IsSet transposed.entry.words.now transposed.entry.width v x → ⊥)) }
+    ensures { Adds grown.old grown.new transposed.entry.width (λ i x. (i ≡ 0) × IsSelfOrSet transposed.entry.words.now transposed.entry.width u x
+        × (IsSet transposed.entry.words.now transposed.entry.width v x → ⊥)) }
 {
     for i in 0..transposed.width {
         let sources = with_bit(transposed.words[u * transposed.width + i], i, u);

@@ -66,7 +66,8 @@ pub fn join(table: &mut [u64], transposed: &mut [u64], size: Size, u: usize, v: 
     requires fits { size.width ≡ (size.nodes + 63) / 64 }
     requires from { u < size.nodes }
     requires to { v < size.nodes }
-    ensures added { Adds table.old table.new size.width (λ x y. (x < size.nodes) × ((x ≡ u) ⊎ IsSet table.old size.width x u) × IsSelfOrSet table.old size.width v y) }
+    ensures added { Adds table.old table.new size.width (λ x y. (x < size.nodes) × ((x ≡ u) ⊎ IsSet table.old size.width x u)
+        × IsSelfOrSet table.old size.width v y) }
     ensures transposed { AreTransposed table.new transposed.new size.width size.nodes }
 {
     for i in 0..size.width {

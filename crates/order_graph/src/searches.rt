@@ -56,7 +56,8 @@ pub fn raise(tables: Tables, levels: &mut [u64], u: usize, v: usize, count: usiz
     requires from { u < tables.nodes }
     requires to { v < tables.nodes }
     requires level { (count + 1) * tables.width + tables.width ≤ length levels.old }
-    ensures { Adds levels.old levels.new tables.entry.width (λ i y. (i ≡ count + 1) × (y < tables.entry.nodes) × IsAboveLevel tables.entry.edges.now tables.entry.paths.now tables.entry.transposed.now levels.old tables.entry.width u v count y) }
+    ensures { Adds levels.old levels.new tables.entry.width (λ i y. (i ≡ count + 1) × (y < tables.entry.nodes)
+        × IsAboveLevel tables.entry.edges.now tables.entry.paths.now tables.entry.transposed.now levels.old tables.entry.width u v count y) }
 {
     let (low, high) = used_words(
         BitTable {
@@ -94,7 +95,8 @@ pub fn descend(
     requires levels { (d : ℕ) → d ≤ count → IsLevel tables.edges.now tables.paths.now levels.now tables.width tables.nodes u v d }
     requires meets { (y : ℕ) × (y / 64 < tables.width) × IsSet tables.edges.now tables.width u y × IsSet levels.now tables.width count y }
     requires shortest { NoShorter tables.edges.now tables.width tables.nodes u v count }
-    ensures { IfOk result (λ list. IsLeastTrack (Joined tables.entry.edges.now tables.entry.width tables.entry.nodes) u v list.items × (length list.items ≡ count + 1)) }
+    ensures { IfOk result (λ list. IsLeastTrack (Joined tables.entry.edges.now tables.entry.width tables.entry.nodes) u v list.items
+        × (length list.items ≡ count + 1)) }
 {
     let edges = BitTable {
         words: tables.edges,

@@ -15,7 +15,8 @@ pub fn transpose_block(transposed: &mut [u64], table: BitTable, nodes: usize, i:
     requires transposed_sized { length transposed.old ≡ nodes * table.width }
     requires rows { i < table.width }
     requires columns { j < table.width }
-    ensures { Adds transposed.old transposed.new table.entry.width (λ y x. (y / 64 ≡ j) × (x / 64 ≡ i) × (x < nodes) × IsSet table.entry.words.now table.entry.width x y) }
+    ensures { Adds transposed.old transposed.new table.entry.width
+        (λ y x. (y / 64 ≡ j) × (x / 64 ≡ i) × (x < nodes) × IsSet table.entry.words.now table.entry.width x y) }
 {
     let mut word = 0;
     let mut rows = 0;
@@ -45,7 +46,8 @@ pub fn transpose_blocks(
     requires rows { i < table.width }
     requires order { first ≤ end }
     requires columns { end ≤ table.width }
-    ensures { Adds transposed.old transposed.new table.entry.width (λ y x. (first ≤ y / 64) × (y / 64 < end) × (x / 64 ≡ i) × (x < nodes) × IsSet table.entry.words.now table.entry.width x y) }
+    ensures { Adds transposed.old transposed.new table.entry.width
+        (λ y x. (first ≤ y / 64) × (y / 64 < end) × (x / 64 ≡ i) × (x < nodes) × IsSet table.entry.words.now table.entry.width x y) }
 {
     for j in first..end {
         transpose_block(transposed, table, nodes, i, j);
@@ -64,7 +66,8 @@ pub fn transpose_columns(
     requires transposed_sized { length transposed.old ≡ nodes * table.width }
     requires order { first ≤ end }
     requires columns { end ≤ table.width }
-    ensures { Adds transposed.old transposed.new table.entry.width (λ y x. (first ≤ y / 64) × (y / 64 < end) × (x < nodes) × IsSet table.entry.words.now table.entry.width x y) }
+    ensures { Adds transposed.old transposed.new table.entry.width
+        (λ y x. (first ≤ y / 64) × (y / 64 < end) × (x < nodes) × IsSet table.entry.words.now table.entry.width x y) }
 {
     for i in 0..table.width {
         transpose_blocks(transposed, table, nodes, i, first, end);

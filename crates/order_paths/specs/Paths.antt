@@ -1,5 +1,5 @@
 -- Paths and cycles over any edges, and which of two lists of numbers is the lesser.
-use Rattle.std.specs.Prelude.{◌≡◌, ◌⊎◌, ℕ, ◌<◌, List, [], ◌∷◌, length}
+use Rattle.std.specs.Prelude.{◌≡◌, ◌⊎◌, ℕ, ◌<◌, Bool, IsTrue, List, [], ◌∷◌, length}
 
 -- each number of the list has an edge to the next
 abbrev pub Linked : (ℕ → ℕ → Type 0) → List ℕ → Type 0
@@ -47,3 +47,15 @@ IsLeastPath Edge u v path = IsPath Edge u v path × ((other : List ℕ) → IsPa
 
 abbrev pub IsLeastCycle : (ℕ → ℕ → Type 0) → List ℕ → Type 0
 IsLeastCycle Edge cycle = IsCycle Edge cycle × ((other : List ℕ) → IsCycle Edge other → IsNoGreater cycle other)
+
+-- the test answers true of the two numbers
+abbrev pub Passes : (ℕ → ℕ → Bool) → ℕ → ℕ → Type 0
+Passes test x y = IsTrue (test x y)
+
+-- each pair of the one test is one of the other
+abbrev pub IsTestWithin : (ℕ → ℕ → Bool) → (ℕ → ℕ → Bool) → Type 0
+IsTestWithin test other = (x y : ℕ) → IsTrue (test x y) → IsTrue (other x y)
+
+-- the pairs of the test are of numbers below n
+abbrev pub AreBelow : ℕ → (ℕ → ℕ → Bool) → Type 0
+AreBelow n test = (x y : ℕ) → IsTrue (test x y) → (x < n) × (y < n)

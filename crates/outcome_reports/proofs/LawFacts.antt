@@ -1,4 +1,4 @@
--- Lemmas on what the definitions say: a program has one list of traces, and a piece is one thing to them.
+-- Lemmas on what the definitions say: a program has one list of traces, and a trace text is one thing to them.
 use Rattle.std.proofs.Common.{◌≡◌, ◌⊎◌, ◌∙◌, ℕ, zero, suc, ◌+◌, ◌<◌, ◌≤◌, Bool, true, List, [], ◌∷◌, ◌++◌, length, map, get_or, Some, refl, ap, ap₂, sym, subst, inl, inr, arith}
 use Rattle.std.specs.Prelude.{◌==◌, cond, slice_get}
 use Rattle.std.specs.List.{All, count_by}
@@ -12,17 +12,17 @@ use Rattle.tso_text.specs.Texts.{SpellsTrace}
 use Rattle.tso_text.specs.Refusals.{IsRefusedTrace}
 use Rattle.tso_text.proofs.TextLaws.{trace_laws}
 use Rattle.trace_reports.specs.declared.answers.Answer.{Answer}
-use Rattle.trace_streams.proofs.PieceFacts.{one_list_of_pieces}
-use Rattle.final_states.specs.FinalStates.{AreFinalStatesOf, FinalStateValue, IsFinalState, is_below, numbers_of, values_read}
+use Rattle.trace_streams.proofs.TraceTextFacts.{one_list_of_trace_texts}
+use Rattle.final_states.specs.FinalStates.{AreFinalStatesOf, FinalStateValue, IsFinalState, is_below, state_numbers, values_read}
 use Rattle.outcome_reports.specs.Internal.TraceLists.{StandsIn}
 use Rattle.final_states.specs.FinalStates.{IsRunTrace}
 use Rattle.outcome_reports.specs.Outcomes.{AreTracesOf, IsListing, traces_text}
-use Rattle.outcome_reports.specs.SeenTraces.{AreSightings, CountsSeen, IsSighting, is_foreign, is_seen, is_unreached, seen_text, seen_total, seen_verdict}
+use Rattle.outcome_reports.specs.SeenTraces.{AreClassesOf, CountsSeen, IsClassOfText, is_foreign, is_seen, is_unreached, seen_text, seen_total, seen_verdict}
 use Rattle.outcome_reports.specs.StateLines.{states_text}
 use Rattle.request_options.specs.declared.outcomes.OutcomeForm.{OutcomeForm}
 use Rattle.request_options.specs.declared.outcomes.OutcomeForm.TheVariants.{Traces, States}
-use Rattle.outcome_reports.specs.declared.sightings.Sighting.{Sighting}
-use Rattle.outcome_reports.specs.declared.sightings.Sighting.TheVariants.{Seen, Unreached, Foreign}
+use Rattle.outcome_reports.specs.declared.classes.TraceClass.{TraceClass}
+use Rattle.outcome_reports.specs.declared.classes.TraceClass.TheVariants.{Reached, Unreached, Foreign}
 use Rattle.outcome_reports.proofs.ReadValues.{run_of_program}
 use Rattle.outcome_reports.proofs.TraceListFacts.{at_end, traces_rise}
 use Rattle.outcome_reports.proofs.ValueOrder.{below_itself, below_trans}
@@ -95,13 +95,13 @@ one_trace_list program traces others first second =
 
 one_state_list : (program : ProgramValue) (states others : List FinalStateValue) → AreFinalStatesOf program states → AreFinalStatesOf program others → states ≡ others
 one_state_list program states others first second =
-    one_list numbers_of states others first.ascending second.ascending (λ z s. second.all z (stands_so (IsFinalState program) states z first.each s)) (λ z s. first.all z (stands_so (IsFinalState program) others z second.each s))
+    one_list state_numbers states others first.ascending second.ascending (λ z s. second.all z (stands_so (IsFinalState program) states z first.each s)) (λ z s. first.all z (stands_so (IsFinalState program) others z second.each s))
 
 pub one_listing : (form : OutcomeForm) (program : ProgramValue) (text other : List ℕ) → IsListing form program text → IsListing form program other → text ≡ other
 one_listing Traces program text other first second = first.2 ∙ ap traces_text (one_trace_list program first.0 second.0 first.1 second.1) ∙ sym second.2
 one_listing States program text other first second = first.2 ∙ ap states_text (one_state_list program first.0 second.0 first.1 second.1) ∙ sym second.2
 
--- ---- what a piece is
+-- ---- what a trace text is
 
 module _ (program : ProgramValue) (traces : List TraceValue) (are : AreTracesOf program traces) (piece : List ℕ) where
   place_run : (k : ℕ) (t : TraceValue) → slice_get traces k ≡ Some t → IsRunTrace program t
@@ -130,67 +130,67 @@ module _ (program : ProgramValue) (traces : List TraceValue) (are : AreTracesOf 
   same_spelled : (t u : TraceValue) → SpellsTrace piece t → SpellsTrace piece u → t ≡ u
   same_spelled t u first second = trace_laws.one_value piece t u first second
 
-  seen_unreached : (k : ℕ) → IsSighting program traces piece (Seen k) → IsSighting program traces piece Unreached → ⊥
+  seen_unreached : (k : ℕ) → IsClassOfText program traces piece (Reached k) → IsClassOfText program traces piece Unreached → ⊥
   seen_unreached k first second = second.3 (subst (IsRunTrace program) (same_spelled first.0 second.0 first.1 second.1) (place_run k first.0 first.2))
 
-  spelled_foreign : (t : TraceValue) → SpellsTrace piece t → program_of t ≡ program → IsSighting program traces piece Foreign → ⊥
+  spelled_foreign : (t : TraceValue) → SpellsTrace piece t → program_of t ≡ program → IsClassOfText program traces piece Foreign → ⊥
   spelled_foreign t spells same (inl refused) = not_refused t spells refused
   spelled_foreign t spells same (inr other) = other.2 (subst (λ u. program_of u ≡ program) (same_spelled t other.0 spells other.1) same)
 
-  pub one_sighting : (sighting other : Sighting) → IsSighting program traces piece sighting → IsSighting program traces piece other → sighting ≡ other
-  one_sighting (Seen j) (Seen k) first second =
-      ap Seen (one_place j k second.0 (subst (λ t. slice_get traces j ≡ Some t) (same_spelled first.0 second.0 first.1 second.1) first.2) second.2)
-  one_sighting (Seen j) Unreached first second = absurd (seen_unreached j first second)
-  one_sighting (Seen j) Foreign first second = absurd (spelled_foreign first.0 first.1 (run_of_program program first.0 (place_run j first.0 first.2)) second)
-  one_sighting Unreached (Seen k) first second = absurd (seen_unreached k second first)
-  one_sighting Unreached Unreached first second = refl
-  one_sighting Unreached Foreign first second = absurd (spelled_foreign first.0 first.1 first.2 second)
-  one_sighting Foreign (Seen k) first second = absurd (spelled_foreign second.0 second.1 (run_of_program program second.0 (place_run k second.0 second.2)) first)
-  one_sighting Foreign Unreached first second = absurd (spelled_foreign second.0 second.1 second.2 first)
-  one_sighting Foreign Foreign first second = refl
+  pub one_class : (class other : TraceClass) → IsClassOfText program traces piece class → IsClassOfText program traces piece other → class ≡ other
+  one_class (Reached j) (Reached k) first second =
+      ap Reached (one_place j k second.0 (subst (λ t. slice_get traces j ≡ Some t) (same_spelled first.0 second.0 first.1 second.1) first.2) second.2)
+  one_class (Reached j) Unreached first second = absurd (seen_unreached j first second)
+  one_class (Reached j) Foreign first second = absurd (spelled_foreign first.0 first.1 (run_of_program program first.0 (place_run j first.0 first.2)) second)
+  one_class Unreached (Reached k) first second = absurd (seen_unreached k second first)
+  one_class Unreached Unreached first second = refl
+  one_class Unreached Foreign first second = absurd (spelled_foreign first.0 first.1 first.2 second)
+  one_class Foreign (Reached k) first second = absurd (spelled_foreign second.0 second.1 (run_of_program program second.0 (place_run k second.0 second.2)) first)
+  one_class Foreign Unreached first second = absurd (spelled_foreign second.0 second.1 second.2 first)
+  one_class Foreign Foreign first second = refl
 
-one_sightings : (program : ProgramValue) (traces : List TraceValue) (are : AreTracesOf program traces) (pieces : List (List ℕ)) (sightings others : List Sighting) → AreSightings program traces pieces sightings →
-    AreSightings program traces pieces others → sightings ≡ others
-one_sightings program traces are [] [] [] first second = refl
-one_sightings program traces are (p ∷ pieces) (s ∷ sightings) (u ∷ others) first second =
-    ap₂ (λ h t. h ∷ t) (one_sighting program traces are p s u first.0 second.0) (one_sightings program traces are pieces sightings others first.1 second.1)
-one_sightings program traces are [] sightings (u ∷ others) first second = absurd second
-one_sightings program traces are (p ∷ pieces) sightings [] first second = absurd second
-one_sightings program traces are pieces sightings others first second = absurd first
+one_list_of_classes : (program : ProgramValue) (traces : List TraceValue) (are : AreTracesOf program traces) (pieces : List (List ℕ)) (classes others : List TraceClass) → AreClassesOf program traces pieces classes →
+    AreClassesOf program traces pieces others → classes ≡ others
+one_list_of_classes program traces are [] [] [] first second = refl
+one_list_of_classes program traces are (p ∷ pieces) (s ∷ classes) (u ∷ others) first second =
+    ap₂ (λ h t. h ∷ t) (one_class program traces are p s u first.0 second.0) (one_list_of_classes program traces are pieces classes others first.1 second.1)
+one_list_of_classes program traces are [] classes (u ∷ others) first second = absurd second
+one_list_of_classes program traces are (p ∷ pieces) classes [] first second = absurd second
+one_list_of_classes program traces are pieces classes others first second = absurd first
 
 pub one_count : (program : ProgramValue) (stream text other : List ℕ) (verdict said : Answer) → CountsSeen program stream text verdict → CountsSeen program stream other said → (text ≡ other) × (verdict ≡ said)
 one_count program stream text other verdict said first second =
     let traces = one_trace_list program first.traces second.traces first.are_traces second.are_traces in
-    let pieces = one_list_of_pieces stream first.pieces second.pieces first.are_pieces second.are_pieces in
-    let moved = subst (λ ts. AreSightings program ts second.pieces first.sightings) traces (subst (λ ps. AreSightings program first.traces ps first.sightings) pieces first.are_sightings) in
-    let sightings = one_sightings program second.traces second.are_traces second.pieces first.sightings second.sightings moved second.are_sightings in (
-      first.whole ∙ ap₂ (seen_text program.setting.order) traces sightings ∙ sym second.whole,
-      first.says ∙ ap (seen_verdict program.setting.order) sightings ∙ sym second.says,
+    let pieces = one_list_of_trace_texts stream first.pieces second.pieces first.are_trace_texts second.are_trace_texts in
+    let moved = subst (λ ts. AreClassesOf program ts second.pieces first.classes) traces (subst (λ ps. AreClassesOf program first.traces ps first.classes) pieces first.are_classes) in
+    let classes = one_list_of_classes program second.traces second.are_traces second.pieces first.classes second.classes moved second.are_classes in (
+      first.whole ∙ ap₂ (seen_text program.setting.order) traces classes ∙ sym second.whole,
+      first.says ∙ ap (seen_verdict program.setting.order) classes ∙ sym second.says,
     )
 
--- ---- each piece is counted once
+-- ---- each trace text is counted once
 
-count_first : (test : Sighting → Bool) (s : Sighting) (sightings : List Sighting) → count_by test (s ∷ sightings) ≡ cond (test s) 1 0 + count_by test sightings
-count_first test s sightings = sum_by-append (λ (x : Sighting). cond (test x) 1 0) (s ∷ []) sightings ∙ ap (λ n. n + count_by test sightings) (omega arith)
+count_first : (test : TraceClass → Bool) (s : TraceClass) (classes : List TraceClass) → count_by test (s ∷ classes) ≡ cond (test s) 1 0 + count_by test classes
+count_first test s classes = sum_by-append (λ (x : TraceClass). cond (test x) 1 0) (s ∷ []) classes ∙ ap (λ n. n + count_by test classes) (omega arith)
 
--- how often one sighting is of so many traces
-this_total : Sighting → ℕ → ℕ → ℕ
+-- how often one class is of so many traces
+this_total : TraceClass → ℕ → ℕ → ℕ
 this_total s k zero = 0
 this_total s k (suc count) = cond (is_seen k s) 1 0 + this_total s (suc k) count
 
-total_first : (s : Sighting) (sightings : List Sighting) (k count : ℕ) → seen_total (s ∷ sightings) k count ≡ this_total s k count + seen_total sightings k count
+total_first : (s : TraceClass) (classes : List TraceClass) (k count : ℕ) → seen_total (s ∷ classes) k count ≡ this_total s k count + seen_total classes k count
 unfolding this_total
-total_first s sightings k zero = omega arith
-total_first s sightings k (suc count) =
-    let here = count_first (is_seen k) s sightings in
-    let rest = total_first s sightings (suc k) count in
+total_first s classes k zero = omega arith
+total_first s classes k (suc count) =
+    let here = count_first (is_seen k) s classes in
+    let rest = total_first s classes (suc k) count in
     omega (arith, here, rest)
 
 total_none : (k count : ℕ) → seen_total [] k count ≡ 0
 total_none k zero = refl
 total_none k (suc count) = let rest = total_none (suc k) count in omega (arith, rest)
 
-past_total : (j k count : ℕ) → j < k → this_total (Seen j) k count ≡ 0
+past_total : (j k count : ℕ) → j < k → this_total (Reached j) k count ≡ 0
 unfolding this_total
 past_total j k zero less = refl
 past_total j k (suc count) less =
@@ -198,7 +198,7 @@ past_total j k (suc count) less =
     let rest = past_total j (suc k) count (omega arith) in
     omega (arith, here, rest)
 
-one_total : (j k count : ℕ) → k ≤ j → j < k + count → this_total (Seen j) k count ≡ 1
+one_total : (j k count : ℕ) → k ≤ j → j < k + count → this_total (Reached j) k count ≡ 1
 unfolding this_total
 one_total j k zero least most = absurd (omega arith)
 one_total j k (suc count) least most = elim (cases_eq j k) [
@@ -222,24 +222,24 @@ unfolding this_total
 foreign_total k zero = refl
 foreign_total k (suc count) = let rest = foreign_total (suc k) count in omega (arith, rest)
 
-counted_once : (program : ProgramValue) (traces : List TraceValue) (piece : List ℕ) (s : Sighting) → IsSighting program traces piece s →
+counted_once : (program : ProgramValue) (traces : List TraceValue) (piece : List ℕ) (s : TraceClass) → IsClassOfText program traces piece s →
     this_total s 0 (length traces) + cond (is_unreached s) 1 0 + cond (is_foreign s) 1 0 ≡ 1
-counted_once program traces piece (Seen j) is =
+counted_once program traces piece (Reached j) is =
     let inside = slice_get_within traces j is.0 is.2 in
     let one = one_total j 0 (length traces) (omega arith) (omega (arith, inside)) in
     omega (arith, one)
 counted_once program traces piece Unreached is = let none = unreached_total 0 (length traces) in omega (arith, none)
 counted_once program traces piece Foreign is = let none = foreign_total 0 (length traces) in omega (arith, none)
 
-pub each_counted : (program : ProgramValue) (traces : List TraceValue) (pieces : List (List ℕ)) (sightings : List Sighting) → AreSightings program traces pieces sightings →
-    seen_total sightings 0 (length traces) + count_by is_unreached sightings + count_by is_foreign sightings ≡ length pieces
+pub each_counted : (program : ProgramValue) (traces : List TraceValue) (pieces : List (List ℕ)) (classes : List TraceClass) → AreClassesOf program traces pieces classes →
+    seen_total classes 0 (length traces) + count_by is_unreached classes + count_by is_foreign classes ≡ length pieces
 each_counted program traces [] [] are = let none = total_none 0 (length traces) in omega (arith, none)
-each_counted program traces (p ∷ pieces) (s ∷ sightings) are =
+each_counted program traces (p ∷ pieces) (s ∷ classes) are =
     let once = counted_once program traces p s are.0 in
-    let rest = each_counted program traces pieces sightings are.1 in
-    let first = total_first s sightings 0 (length traces) in
-    let second = count_first is_unreached s sightings in
-    let third = count_first is_foreign s sightings in
+    let rest = each_counted program traces pieces classes are.1 in
+    let first = total_first s classes 0 (length traces) in
+    let second = count_first is_unreached s classes in
+    let third = count_first is_foreign s classes in
     omega (arith, once, rest, first, second, third)
-each_counted program traces [] (s ∷ sightings) are = absurd are
+each_counted program traces [] (s ∷ classes) are = absurd are
 each_counted program traces (p ∷ pieces) [] are = absurd are

@@ -4,7 +4,7 @@ pub mod LineFacts
 pub mod ReadValues
 pub mod SaidFacts
 pub mod SameOutcomes
-pub mod SightingFacts
+pub mod TraceClassFacts
 pub mod StreamFacts
 pub mod TraceListFacts
 pub mod ValueOrder

@@ -12,7 +12,7 @@ use Rattle.tso_ops.specs.Values.{ProgramValue, rows}
 use Rattle.final_states.specs.declared.states.FinalState.{FinalState}
 use Rattle.final_states.specs.FinalStates.{state_of, value_read}
 use Rattle.outcome_reports.specs.Internal.PartLines.{GetsParts, GetsValues, IsLineOf, has_part}
-use Rattle.outcome_reports.specs.StateLines.{last_part, read_part, read_parts, state_line, states_text, value_parts, with_spaces}
+use Rattle.outcome_reports.specs.StateLines.{last_part, parts_of_reads, read_part, state_line, states_text, value_parts, with_spaces}
 
 -- ---- one part more
 
@@ -71,12 +71,12 @@ value_parts-more p n [] value = ap (λ k. read_part p k value ∷ []) (omega ari
 value_parts-more p n (v ∷ values) value =
     ap (λ rest. read_part p n v ∷ rest) (value_parts-more p (suc n) values value ∙ ap (λ k. value_parts p (suc n) values ++ read_part p k value ∷ []) (omega arith))
 
-pub read_parts-more : (p : ℕ) (lists : List (List Outcome)) (list : List Outcome) → read_parts p (lists ++ list ∷ []) ≡ read_parts p lists ++ value_parts (p + length lists) 0 (filter_map value_read list)
+pub read_parts-more : (p : ℕ) (lists : List (List Outcome)) (list : List Outcome) → parts_of_reads p (lists ++ list ∷ []) ≡ parts_of_reads p lists ++ value_parts (p + length lists) 0 (filter_map value_read list)
 read_parts-more p [] list = append-nil _ ∙ ap (λ k. value_parts k 0 (filter_map value_read list)) (omega arith)
 read_parts-more p (l ∷ lists) list =
     ap (λ rest. value_parts p 0 (filter_map value_read l) ++ rest)
-    (read_parts-more (suc p) lists list ∙ ap (λ k. read_parts (suc p) lists ++ value_parts k 0 (filter_map value_read list)) (omega arith))
-    ∙ sym (append_assoc (value_parts p 0 (filter_map value_read l)) (read_parts (suc p) lists) (value_parts (p + length (l ∷ lists)) 0 (filter_map value_read list)))
+    (read_parts-more (suc p) lists list ∙ ap (λ k. parts_of_reads (suc p) lists ++ value_parts k 0 (filter_map value_read list)) (omega arith))
+    ∙ sym (append_assoc (value_parts p 0 (filter_map value_read l)) (parts_of_reads (suc p) lists) (value_parts (p + length (l ∷ lists)) 0 (filter_map value_read list)))
 
 -- ---- parts as they are printed
 
@@ -140,8 +140,8 @@ module _ (p i number : ℕ) (outcomes : List Outcome) (d : Outcome) (old mid : L
 
 -- ---- loops over lists, entries and lines
 
-pub lists_more : (i : ℕ) (lists : List (Vec Outcome)) (d : Vec Outcome) (old mid new : List ℕ) (was then now : Bool) → i < length lists → GetsParts old was mid then (read_parts 0 (rows (take i lists))) →
-    GetsParts mid then new now (value_parts i 0 (filter_map value_read (get_or lists i d).items)) → GetsParts old was new now (read_parts 0 (rows (take (i + 1) lists)))
+pub lists_more : (i : ℕ) (lists : List (Vec Outcome)) (d : Vec Outcome) (old mid new : List ℕ) (was then now : Bool) → i < length lists → GetsParts old was mid then (parts_of_reads 0 (rows (take i lists))) →
+    GetsParts mid then new now (value_parts i 0 (filter_map value_read (get_or lists i d).items)) → GetsParts old was new now (parts_of_reads 0 (rows (take (i + 1) lists)))
 lists_more i lists d old mid new was then now inside before more =
     let part = rows (take i lists) in
     let next = (get_or lists i d).items in
@@ -149,8 +149,8 @@ lists_more i lists d old mid new was then now inside before more =
     let all : rows (take (i + 1) lists) ≡ part ++ next ∷ [] =
     ap rows (take_more lists i d inside) ∙ map-append (λ (row : Vec Outcome). row.items) (take i lists) (get_or lists i d ∷ []) in
     subst (GetsParts old was new now)
-    (ap (λ k. read_parts 0 part ++ value_parts k 0 (filter_map value_read next)) (sym count ∙ zero_plus (length part)) ∙ sym (read_parts-more 0 part next) ∙ ap (read_parts 0) (sym all))
-    (gets_both old mid new was then now (read_parts 0 part) (value_parts i 0 (filter_map value_read next)) before more)
+    (ap (λ k. parts_of_reads 0 part ++ value_parts k 0 (filter_map value_read next)) (sym count ∙ zero_plus (length part)) ∙ sym (read_parts-more 0 part next) ∙ ap (parts_of_reads 0) (sym all))
+    (gets_both old mid new was then now (parts_of_reads 0 part) (value_parts i 0 (filter_map value_read next)) before more)
   where
     zero_plus : (k : ℕ) → k ≡ 0 + k
     zero_plus k = omega arith

@@ -14,7 +14,7 @@ use Rattle.tso_ops.specs.Settings.{SettingValue, version_one_tso}
 use Rattle.tso_ops.specs.Values.{ProgramValue, TraceValue, rows, trace_of_lists}
 use Rattle.tso_text.specs.Printed.{trace_text}
 use Rattle.final_states.specs.declared.states.FinalState.{FinalState}
-use Rattle.final_states.specs.FinalStates.{AreFinalStatesOf, FinalStateValue, IsFinalState, is_below, last_values, numbers_of, state_of, stored_addresses, values_read}
+use Rattle.final_states.specs.FinalStates.{AreFinalStatesOf, FinalStateValue, IsFinalState, is_below, last_values, state_numbers, state_of, stored_addresses, values_read}
 use Rattle.outcome_reports.specs.Internal.Counting.{AreRising, IsLastOf, trace_by, traces_by}
 use Rattle.outcome_reports.specs.Internal.TraceLists.{HasTracesOf, StandsIn}
 use Rattle.final_states.specs.FinalStates.{IsRunTrace}
@@ -117,9 +117,9 @@ module _ (program : ProgramValue) (done later : List FinalStateValue) (state : F
         let front = has.last before s is in
         let place : length before < length done = (let count = ap length is in let more = length-append before (s ∷ []) in omega (arith, count, more)) in
         let here : get_or done (length before) s ≡ s = ap (λ ss. get_or ss (length before) s) is ∙ at_end before s [] s in
-        let below : is_below (numbers_of s) (numbers_of state) ≡ true =
-        subst (λ e. is_below (numbers_of e) (numbers_of state) ≡ true) here
-        (All-get_or (λ (e : FinalStateValue). is_below (numbers_of e) (numbers_of state) ≡ true) done (length before) s place (are.ascending done state later refl)) in
+        let below : is_below (state_numbers s) (state_numbers state) ≡ true =
+        subst (λ e. is_below (state_numbers e) (state_numbers state) ≡ true) here
+        (All-get_or (λ (e : FinalStateValue). is_below (state_numbers e) (state_numbers state) ≡ true) done (length before) s place (are.ascending done state later refl)) in
         let run : IsRunTrace program s.trace =
         trace_of_state program s
         (subst (IsFinalState program) (in_front done (state ∷ later) (length before) s place ∙ here)

@@ -11,7 +11,7 @@ use Rattle.trace_reports.specs.RefusalLines.{refusal_text}
 use Rattle.trace_reports.specs.declared.answers.Answer.{Answer}
 use Rattle.trace_reports.specs.declared.answers.Answer.TheVariants.{Clear, Refused}
 use Rattle.final_states.specs.FinalStates.{AreFinalStatesOf, FinalStateValue, IsRunTrace, is_below, values_read}
-use Rattle.final_states.specs.RunStates.{ReachesMore}
+use Rattle.final_states.specs.RunStates.{ReachesMoreStates}
 use Rattle.request_options.specs.declared.outcomes.OutcomeForm.{OutcomeForm}
 use Rattle.request_options.specs.declared.outcomes.OutcomeForm.TheVariants.{Traces, States}
 use Rattle.request_options.specs.declared.outcomes.OutcomeOptions.{OutcomeOptions}
@@ -43,7 +43,7 @@ IsListing States program text = (states : List FinalStateValue) × AreFinalState
 
 -- that line, where runs of the program reach more states than the limit
 pub record IsRefusedByStates (limit : ℕ) (program : ProgramValue) (text : List ℕ) (verdict : Answer) : Type 0 where
-  pub more : ReachesMore program limit
+  pub more : ReachesMoreStates program limit
   pub line : text ≡ states_refusal
   pub refused : verdict ≡ Refused
 

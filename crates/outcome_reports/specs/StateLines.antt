@@ -16,9 +16,9 @@ value_parts p number [] = []
 value_parts p number (value ∷ values) = read_part p number value ∷ value_parts p (suc number) values
 
 -- the parts of what processors read, of which p is the first
-abbrev pub read_parts : ℕ → List (List Outcome) → List (List ℕ)
-read_parts p [] = []
-read_parts p (outcomes ∷ lists) = value_parts p 0 (filter_map value_read outcomes) ++ read_parts (suc p) lists
+abbrev pub parts_of_reads : ℕ → List (List Outcome) → List (List ℕ)
+parts_of_reads p [] = []
+parts_of_reads p (outcomes ∷ lists) = value_parts p 0 (filter_map value_read outcomes) ++ parts_of_reads (suc p) lists
 
 -- `[ADDRESS]=VALUE;`
 abbrev pub last_part : ℕ × ℕ → List ℕ
@@ -31,12 +31,12 @@ with_spaces (part ∷ []) = part
 with_spaces (part ∷ parts) = part ++ 32 ∷ with_spaces parts
 
 -- the line of what was read
-abbrev pub trace_line : TraceValue → List ℕ
-trace_line t = with_spaces (read_parts 0 t.lists) ++ 10 ∷ []
+abbrev pub reads_line : TraceValue → List ℕ
+reads_line t = with_spaces (parts_of_reads 0 t.lists) ++ 10 ∷ []
 
 -- the line of a final state
 abbrev pub state_line : FinalStateValue → List ℕ
-state_line state = with_spaces (read_parts 0 state.trace.lists ++ map last_part state.last) ++ 10 ∷ []
+state_line state = with_spaces (parts_of_reads 0 state.trace.lists ++ map last_part state.last) ++ 10 ∷ []
 
 -- how many there are, and the line of each
 abbrev pub states_text : List FinalStateValue → List ℕ

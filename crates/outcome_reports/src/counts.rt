@@ -6,10 +6,10 @@ ghost use Rattle.tso_ops.specs.declared.settings.Order.{Order};
 ghost use Rattle.tso_ops.specs.Settings.{SettingValue};
 ghost use Rattle.outcome_reports.specs.Internal.Counting.{CountsOf, IsWithin, traces_by};
 ghost use Rattle.outcome_reports.specs.SeenTraces.{count_lines, seen_count, seen_text, seen_verdict, unreached_word};
-ghost use Rattle.outcome_reports.specs.declared.sightings.Sighting.{Sighting};
+ghost use Rattle.outcome_reports.specs.declared.classes.TraceClass.{TraceClass};
 
+use crate::classes::TraceClass;
 use crate::lines::print_reads;
-use crate::sightings::Sighting;
 use std::alloc::{AllocError, Global};
 use std::fmt::Write;
 use text_streams::Fault;
@@ -17,7 +17,7 @@ use trace_reports::Answer;
 use tso_ops::{Order, Outcome};
 
 /// How often each of some traces was seen, how many traces of the program were seen that no complete run leaves, and how many
-/// pieces were no trace of it.
+/// trace texts were no trace of it.
 #[derive(Drop)]
 pub(crate) struct SeenCounts {
     pub(crate) seen: Vec<u64>,
@@ -37,24 +37,24 @@ impl SeenCounts {
         })
     }
 
-    /// Counts what a piece is. Read where there were 2^64 - 1 of these before.
-    pub(crate) fn count(&mut self, sighting: Sighting) -> Result<(), Fault>
-        requires { IsWithin (length self.old.seen.items) sighting }
-        ensures counted { OnOk result ((count : ℕ) (sightings : List Sighting) → CountsOf count sightings self.old → CountsOf count (sightings ++ sighting ∷ []) self.new) }
+    /// Counts what a trace text is. Read where there were 2^64 - 1 of these before.
+    pub(crate) fn count(&mut self, class: TraceClass) -> Result<(), Fault>
+        requires { IsWithin (length self.old.seen.items) class }
+        ensures counted { OnOk result ((count : ℕ) (classes : List TraceClass) → CountsOf count classes self.old → CountsOf count (classes ++ class ∷ []) self.new) }
         ensures wide { length self.new.seen.items ≡ length self.old.seen.items }
         ensures fault { IfErr result (λ fault. fault ≡ Fault.Read) }
     {
-        match sighting {
-            Sighting::Seen(k) => {
+        match class {
+            TraceClass::Reached(k) => {
                 let more = one_more(self.seen[k])?;
                 self.seen[k] = more;
                 Ok(())
             }
-            Sighting::Unreached => {
+            TraceClass::Unreached => {
                 self.unreached = one_more(self.unreached)?;
                 Ok(())
             }
-            Sighting::Foreign => {
+            TraceClass::Foreign => {
                 self.foreign = one_more(self.foreign)?;
                 Ok(())
             }
@@ -63,14 +63,14 @@ impl SeenCounts {
 
     /// How many of the traces were seen.
     fn seen_traces(&self) -> usize
-        ensures { (sightings : List Sighting) → CountsOf (length self.now.seen.items) sightings self.now → result ≡ seen_count sightings 0 (length self.now.seen.items) }
+        ensures { (classes : List TraceClass) → CountsOf (length self.now.seen.items) classes self.now → result ≡ seen_count classes 0 (length self.now.seen.items) }
     {
         count_some(&self.seen)
     }
 
     /// The verdict that they give.
     pub(crate) fn verdict(&self, order: Order) -> Answer
-        ensures { (count : ℕ) (sightings : List Sighting) → CountsOf count sightings self.now → result ≡ seen_verdict order sightings }
+        ensures { (count : ℕ) (classes : List TraceClass) → CountsOf count classes self.now → result ≡ seen_verdict order classes }
     {
         match order {
             Order::Tso if self.unreached > 0 => Answer::Violation,
@@ -88,7 +88,7 @@ impl SeenCounts {
         traces: &[Vec<Vec<Outcome>>],
     ) -> Result<String, AllocError>
         requires { length self.now.seen.items ≡ length traces.now }
-        ensures { IfOk result (λ text. (setting : SettingValue) (sightings : List Sighting) → CountsOf (length traces.now) sightings self.now → string_bytes text ≡ seen_text order (traces_by setting traces.now) sightings) }
+        ensures { IfOk result (λ text. (setting : SettingValue) (classes : List TraceClass) → CountsOf (length traces.now) classes self.now → string_bytes text ≡ seen_text order (traces_by setting traces.now) classes) }
     {
         let count = traces.len();
         let mut text = format!(in alloc; "Traces {count}\n")?;
@@ -104,7 +104,7 @@ impl SeenCounts {
     /// Appends the line of each of these traces.
     fn print_lines(&self, text: &mut String, traces: &[Vec<Vec<Outcome>>]) -> Result<(), AllocError>
         requires { length self.now.seen.items ≡ length traces.now }
-        ensures { OnOk result ((setting : SettingValue) (sightings : List Sighting) → CountsOf (length traces.now) sightings self.now → string_bytes text.new ≡ string_bytes text.old ++ count_lines sightings 0 (traces_by setting traces.now)) }
+        ensures { OnOk result ((setting : SettingValue) (classes : List TraceClass) → CountsOf (length traces.now) classes self.now → string_bytes text.new ≡ string_bytes text.old ++ count_lines classes 0 (traces_by setting traces.now)) }
     {
         for (k, lists) in traces.iter().enumerate() {
             let count = self.seen[k];

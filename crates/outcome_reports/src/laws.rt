@@ -4,9 +4,9 @@ ghost use Rattle.std.specs.List.{count_by};
 ghost use Rattle.tso_ops.specs.Values.{ProgramValue, TraceValue};
 ghost use Rattle.trace_reports.specs.declared.answers.Answer.{Answer};
 ghost use Rattle.outcome_reports.specs.Outcomes.{AreTracesOf, IsListing};
-ghost use Rattle.outcome_reports.specs.SeenTraces.{AreSightings, CountsSeen, IsSighting, is_foreign, is_unreached, seen_total};
+ghost use Rattle.outcome_reports.specs.SeenTraces.{AreClassesOf, CountsSeen, IsClassOfText, is_foreign, is_unreached, seen_total};
 ghost use Rattle.request_options.specs.declared.outcomes.OutcomeForm.{OutcomeForm};
-ghost use Rattle.outcome_reports.specs.declared.sightings.Sighting.{Sighting};
+ghost use Rattle.outcome_reports.specs.declared.classes.TraceClass.{TraceClass};
 
 /// A program has one list of traces, and in each form one text of its outcomes.
 pub fn listings()
@@ -14,10 +14,10 @@ pub fn listings()
     ensures text { (form : OutcomeForm) (program : ProgramValue) (text other : List ℕ) → IsListing form program text → IsListing form program other → text ≡ other }
 {}
 
-/// A piece of a stream is one thing to the traces of a program, each piece is counted once, and a program and a stream have one
-/// text and one verdict.
+/// A trace text of a stream is one thing to the traces of a program, each trace text is counted once, and a program and a
+/// stream have one text and one verdict.
 pub fn seen_traces()
-    ensures one { (program : ProgramValue) (traces : List TraceValue) (piece : List ℕ) (sighting other : Sighting) → AreTracesOf program traces → IsSighting program traces piece sighting → IsSighting program traces piece other → sighting ≡ other }
-    ensures each { (program : ProgramValue) (traces : List TraceValue) (pieces : List (List ℕ)) (sightings : List Sighting) → AreSightings program traces pieces sightings → seen_total sightings 0 (length traces) + count_by is_unreached sightings + count_by is_foreign sightings ≡ length pieces }
+    ensures one { (program : ProgramValue) (traces : List TraceValue) (piece : List ℕ) (class other : TraceClass) → AreTracesOf program traces → IsClassOfText program traces piece class → IsClassOfText program traces piece other → class ≡ other }
+    ensures each { (program : ProgramValue) (traces : List TraceValue) (pieces : List (List ℕ)) (classes : List TraceClass) → AreClassesOf program traces pieces classes → seen_total classes 0 (length traces) + count_by is_unreached classes + count_by is_foreign classes ≡ length pieces }
     ensures text { (program : ProgramValue) (stream text other : List ℕ) (verdict said : Answer) → CountsSeen program stream text verdict → CountsSeen program stream other said → (text ≡ other) × (verdict ≡ said) }
 {}

@@ -6,6 +6,7 @@
 pub use listing::list_outcomes;
 pub use seen::count_seen;
 
+mod classes;
 mod counts;
 mod different;
 pub mod laws;
@@ -13,5 +14,4 @@ mod lines;
 mod listing;
 mod places;
 mod seen;
-mod sightings;
 mod values;

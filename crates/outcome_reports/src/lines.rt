@@ -4,7 +4,7 @@ ghost use Rattle.std.specs.List.{filter_map, flat_map};
 ghost use Rattle.tso_ops.specs.Values.{ProgramValue, rows};
 ghost use Rattle.final_states.specs.FinalStates.{state_of, value_read};
 ghost use Rattle.outcome_reports.specs.Internal.PartLines.{GetsParts, IsLineOf};
-ghost use Rattle.outcome_reports.specs.StateLines.{last_part, read_part, read_parts, state_line, states_text, value_parts, with_spaces};
+ghost use Rattle.outcome_reports.specs.StateLines.{last_part, parts_of_reads, read_part, state_line, states_text, value_parts, with_spaces};
 
 use crate::values::read_by;
 use final_states::FinalState;
@@ -37,7 +37,7 @@ fn print_state(text: &mut String, state: &FinalState) -> Result<(), AllocError>
 
 /// Appends the line of what was read.
 pub(crate) fn print_reads(text: &mut String, lists: &[Vec<Outcome>]) -> Result<(), AllocError>
-    ensures { OnOk result (string_bytes text.new ≡ string_bytes text.old ++ (with_spaces (read_parts 0 (rows lists.now)) ++ 10 ∷ [])) }
+    ensures { OnOk result (string_bytes text.new ≡ string_bytes text.old ++ (with_spaces (parts_of_reads 0 (rows lists.now)) ++ 10 ∷ [])) }
 {
     let mut begun = false;
     push_lists(text, &mut begun, lists)?;
@@ -47,7 +47,7 @@ pub(crate) fn print_reads(text: &mut String, lists: &[Vec<Outcome>]) -> Result<(
 
 /// Appends the parts of what processors read to a line, of which it is known whether it has begun.
 fn push_lists(text: &mut String, begun: &mut bool, lists: &[Vec<Outcome>]) -> Result<(), AllocError>
-    ensures { OnOk result (GetsParts (string_bytes text.old) begun.old (string_bytes text.new) begun.new (read_parts 0 (rows lists.now))) }
+    ensures { OnOk result (GetsParts (string_bytes text.old) begun.old (string_bytes text.new) begun.new (parts_of_reads 0 (rows lists.now))) }
 {
     for (p, list) in lists.iter().enumerate() {
         push_values(text, begun, p, list)?;

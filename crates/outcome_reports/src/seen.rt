@@ -9,36 +9,37 @@ ghost use Rattle.text_streams.specs.Streams.{LosesPrefix};
 ghost use Rattle.text_streams.specs.WrittenTexts.{LeavesAtFault, WritesWhole};
 ghost use Rattle.text_streams.specs.Readings.{ReadsAs};
 ghost use Rattle.final_states.specs.FinalStates.{values_read};
-ghost use Rattle.outcome_reports.specs.Internal.Counting.{CountsOf, CountsPieces, traces_by};
+ghost use Rattle.outcome_reports.specs.Internal.Counting.{CountsOf, CountsTraceTexts, traces_by};
 ghost use Rattle.outcome_reports.specs.Outcomes.{AreTracesOf};
 ghost use Rattle.outcome_reports.specs.SeenTraces.{CountsSeen, IsSeenOf, IsSeenOfReaders, seen_text, seen_verdict};
-ghost use Rattle.outcome_reports.specs.declared.sightings.Sighting.{Sighting};
+ghost use Rattle.outcome_reports.specs.declared.classes.TraceClass.{TraceClass};
 
+use crate::classes::class_of_text;
 use crate::counts::SeenCounts;
 use crate::different::list_traces;
 use crate::listing::{OutcomeText, refused_program, refused_states};
-use crate::sightings::sight_piece;
 use crate::values::values_of_each;
 use final_states::{StatesFault, final_states};
 use std::alloc::Global;
 use std::io::{Read, Write};
 use text_streams::{Fault, read_all, write_text};
 use trace_reports::Answer;
-use trace_streams::PieceReader;
+use trace_streams::TraceTextReader;
 use tso_ops::{OutOfMemory, Outcome, Program};
 use tso_text::{MAX_TEXT_BYTES, read_program};
 
 /// Writes how often a stream of traces has each trace of the complete runs of the program whose text another reader has, in
 /// ascending order of the values that were read; how many of them it has; how many other traces of the program; and how many
-/// pieces that are no trace of it.
+/// trace texts that are no trace of it.
 ///
 /// Another trace of the program is a violation under TSO, where no memory order meets the axioms, and undecided under PSO. The
-/// verdict is Violation where there is one, else Refused where a piece is no trace of the program, else Undecided where one is
-/// undecided, else Clear. A text that is no program, or one whose runs reach more states than the limit, is refused by its
-/// line: the stream isn't read then, and else all of it is. Pieces are those of `judge_batch`, and nothing of a piece is kept. At most 1,048,577 bytes
-/// of the program are read. Faults: OutOfMemory where an allocation was refused; Read where a reader failed, passed 2,097,152
-/// calls for the program or 2^64 - 1 for a piece, or has 2^64 pieces; with both nothing was written. Write where the writer
-/// failed, took no byte or was interrupted more than 1,048,576 times: then what was written is a prefix of the text.
+/// verdict is Violation where there is one, else Refused where a trace text is no trace of the program, else Undecided where
+/// one is undecided, else Clear. A text that is no program, or one whose runs reach more states than the limit, is refused by
+/// its line: the stream isn't read then, and else all of it is. Trace texts are those of `judge_batch`, and nothing of a trace
+/// text is kept. At most 1,048,577 bytes of the program are read. Faults: OutOfMemory where an allocation was refused; Read
+/// where a reader failed, passed 2,097,152 calls for the program or 2^64 - 1 for a trace text, or has 2^64 trace texts; with
+/// both nothing was written. Write where the writer failed, took no byte or was interrupted more than 1,048,576 times: then
+/// what was written is a prefix of the text.
 pub fn count_seen<P: Read, S: Read, W: Write>(
     alloc: Global,
     programs: &mut P,
@@ -123,8 +124,8 @@ fn print_counts(
     counts: &SeenCounts,
 ) -> Result<OutcomeText, OutOfMemory>
     requires { length counts.now.seen.items ≡ length traces.now }
-    ensures text { IfOk result (λ said. (sightings : List Sighting) → CountsOf (length traces.now) sightings counts.now → string_bytes said.text ≡ seen_text program.now.setting.order (traces_by program.now.setting traces.now) sightings) }
-    ensures verdict { IfOk result (λ said. (sightings : List Sighting) → CountsOf (length traces.now) sightings counts.now → said.verdict ≡ seen_verdict program.now.setting.order sightings) }
+    ensures text { IfOk result (λ said. (classes : List TraceClass) → CountsOf (length traces.now) classes counts.now → string_bytes said.text ≡ seen_text program.now.setting.order (traces_by program.now.setting traces.now) classes) }
+    ensures verdict { IfOk result (λ said. (classes : List TraceClass) → CountsOf (length traces.now) classes counts.now → said.verdict ≡ seen_verdict program.now.setting.order classes) }
 {
     let order = program.order();
     Ok(OutcomeText {
@@ -141,32 +142,32 @@ fn count_known<S: Read>(
     stream: &mut S,
 ) -> Result<SeenCounts, Fault>
     requires { AreTracesOf program.now (traces_by program.now.setting traces.now) }
-    ensures counts { IfOk result (λ counts. ReadsAs (S.remaining stream.old) (CountsPieces program.now (traces_by program.now.setting traces.now) counts)) }
+    ensures counts { IfOk result (λ counts. ReadsAs (S.remaining stream.old) (CountsTraceTexts program.now (traces_by program.now.setting traces.now) counts)) }
     ensures wide { IfOk result (λ counts. length counts.seen.items ≡ length traces.now) }
     ensures taken { IfOk result (λ _. IfSome (S.remaining stream.old) (λ all. Consumes (S.remaining stream.old) (S.remaining stream.new) all)) }
     ensures fault { IfErr result (λ fault. (fault ≡ Fault.OutOfMemory) ⊎ (fault ≡ Fault.Read)) }
 {
     let keys = values_of_each(alloc, traces)?;
-    count_pieces(alloc, program, &keys, stream)
+    count_trace_texts(alloc, program, &keys, stream)
 }
 
 /// How often the stream has each trace of the program's runs, which read these values.
-fn count_pieces<S: Read>(
+fn count_trace_texts<S: Read>(
     alloc: Global,
     program: &Program,
     keys: &[Vec<u64>],
     stream: &mut S,
 ) -> Result<SeenCounts, Fault>
-    ensures counts { IfOk result (λ counts. (traces : List TraceValue) → AreTracesOf program.now traces → rows keys.now ≡ map values_read traces → ReadsAs (S.remaining stream.old) (CountsPieces program.now traces counts)) }
+    ensures counts { IfOk result (λ counts. (traces : List TraceValue) → AreTracesOf program.now traces → rows keys.now ≡ map values_read traces → ReadsAs (S.remaining stream.old) (CountsTraceTexts program.now traces counts)) }
     ensures wide { IfOk result (λ counts. length counts.seen.items ≡ length keys.now) }
     ensures taken { IfOk result (λ _. IfSome (S.remaining stream.old) (λ all. Consumes (S.remaining stream.old) (S.remaining stream.new) all)) }
     ensures fault { IfErr result (λ fault. (fault ≡ Fault.OutOfMemory) ⊎ (fault ≡ Fault.Read)) }
 {
     let mut counts = SeenCounts::new(alloc, keys.len())?;
-    let mut pieces = PieceReader::new(alloc)?;
+    let mut pieces = TraceTextReader::new(alloc)?;
     for _ in 0..u64::MAX {
         match pieces.next(stream)? {
-            Some(piece) => counts.count(sight_piece(alloc, program, keys, &piece)?)?,
+            Some(piece) => counts.count(class_of_text(alloc, program, keys, &piece)?)?,
             None => return Ok(counts),
         }
     }

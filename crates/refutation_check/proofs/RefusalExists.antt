@@ -22,7 +22,7 @@ use Rattle.cert_check.specs.Refusals.{AreUpTo, IsReasonUpTo, IsBase}
 use Rattle.refutation_check.specs.declared.faults.RefutationFault.{RefutationFault}
 use Rattle.refutation_check.specs.declared.faults.RefutationFault.TheVariants.{Misplaced, Unfinished, EventRange, BaseRefused, SideRefused, PathUnlisted, CaseRefused, CycleUnlisted, EmptyCycle}
 use Rattle.refutation_check.specs.declared.structure.OpenCase.{OpenCase}
-use Rattle.refutation_check.specs.Refutations.{NoPair, WithPair, AreTwoEvents, StepHolds, HoldsUnder, RefutationHolds}
+use Rattle.refutation_check.specs.Refutations.{NoPair, WithPair, AreTwoEvents, StepHoldsOver, HoldsUnder, RefutationHolds}
 use Rattle.refutation_check.specs.Refusals.{IsLineUpTo, IsStructureFault, HasStepFault, HasCycleFault, HasFirstFault, IsRefutationRefusal}
 use Rattle.refutation_check.specs.Internal.Structure.{IsMissing}
 use Rattle.refutation_check.proofs.StructureFacts.{Leaves, leaves_none, leaves_at, misplaced_at, all_leave, unfinished, none_missing, missing_step, missing_case, missing_cycle, missing_no_else}
@@ -141,7 +141,7 @@ module _ (t : TraceValue) where
 
   -- a step holds or has a fault
   step_decided : (P : ℕ → ℕ → Type 0) → ((x y : ℕ) → Decision (P x y)) → (number : ℕ) (s : CertStep) →
-      StepHolds t P s ⊎ ((fault : RefutationFault) × HasStepFault t P number s fault)
+      StepHoldsOver t P s ⊎ ((fault : RefutationFault) × HasStepFault t P number s fault)
   step_decided P decide number s = elim (meets_decided t s.from s.to s.reason) [
     | inl meets ↦ elim (path_decided P decide s.reason) [
       | inl path ↦ inl (meets, path)

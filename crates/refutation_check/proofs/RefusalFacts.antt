@@ -19,8 +19,8 @@ use Rattle.tso_model.proofs.Bounds.{BasePair-within, InferredBy-within}
 use Rattle.cert_check.specs.Refusals.{IsReasonUpTo, IsBase}
 use Rattle.refutation_check.specs.declared.faults.RefutationFault.{RefutationFault}
 use Rattle.refutation_check.specs.declared.faults.RefutationFault.TheVariants.{Misplaced, Unfinished, EventRange, BaseRefused, SideRefused, PathUnlisted, CaseRefused, CycleUnlisted, EmptyCycle}
-use Rattle.refutation_check.specs.Refutations.{NoPair, WithPair, StepHolds, HoldsUnder, RefutationHolds}
-use Rattle.refutation_check.specs.Refusals.{IsBeginning, IsStructureFault, IsLineUpTo, IsInRange, HasStepFault, HasCycleFault, HasFirstFault, IsLineFault, IsRefutationRefusal}
+use Rattle.refutation_check.specs.Refutations.{NoPair, WithPair, StepHoldsOver, HoldsUnder, RefutationHolds}
+use Rattle.refutation_check.specs.Refusals.{IsBeginning, IsStructureFault, IsLineUpTo, AreLinesInRange, HasStepFault, HasCycleFault, HasFirstFault, IsFaultOfLines, IsRefutationRefusal}
 
 -- ---- lines have one refutation at most
 
@@ -145,7 +145,7 @@ one_step_fault t P number s f g has other = elim (step_kind t P number s f has) 
   ]
 ]
 
-no_step_fault : (t : TraceValue) (P : ℕ → ℕ → Type 0) (number : ℕ) (s : CertStep) (f : RefutationFault) → StepHolds t P s → HasStepFault t P number s f → ⊥
+no_step_fault : (t : TraceValue) (P : ℕ → ℕ → Type 0) (number : ℕ) (s : CertStep) (f : RefutationFault) → StepHoldsOver t P s → HasStepFault t P number s f → ⊥
 no_step_fault t P number s f holds has = elim (step_kind t P number s f has) [
   | inl base ↦ base.2 holds.0
   | inr (inl side) ↦ side.2 holds.0
@@ -205,11 +205,11 @@ one_first_fault t P number (split u v first second) f g (inr (inr later)) (inr (
 one_first_fault t P number (split u v first second) f g (inr (inr one)) (inr (inr also)) =
     one_first_fault t (WithPair P v u) (suc (suc number + length (lines_of first))) second f g one.2 also.2
 
-no_line_fault : (t : TraceValue) (lines : List RefutationLine) (f : RefutationFault) → RefutationHolds t lines → IsLineFault t lines f → ⊥
+no_line_fault : (t : TraceValue) (lines : List RefutationLine) (f : RefutationFault) → RefutationHolds t lines → IsFaultOfLines t lines f → ⊥
 no_line_fault t lines f (r, is, holds) (other, also, has) =
     no_fault t NoPair 1 r f holds (subst (λ q. HasFirstFault t NoPair 1 q f) (one_refutation other r (sym also ∙ is)) has)
 
-one_line_fault : (t : TraceValue) (lines : List RefutationLine) (f g : RefutationFault) → IsLineFault t lines f → IsLineFault t lines g → f ≡ g
+one_line_fault : (t : TraceValue) (lines : List RefutationLine) (f g : RefutationFault) → IsFaultOfLines t lines f → IsFaultOfLines t lines g → f ≡ g
 one_line_fault t lines f g (r, is, has) (other, also, has_too) =
     one_first_fault t NoPair 1 r f g has (subst (λ q. HasFirstFault t NoPair 1 q g) (one_refutation other r (sym also ∙ is)) has_too)
 
@@ -271,7 +271,7 @@ lines_range t P range (split u v first second) holds =
           ((v_range, u_range), lines_range t (WithPair P v u) (up_to_with P (event_total t) v u range (v_range, u_range)) second holds.2),
     )
 
-in_range : (t : TraceValue) (lines : List RefutationLine) → RefutationHolds t lines → IsInRange t lines
+in_range : (t : TraceValue) (lines : List RefutationLine) → RefutationHolds t lines → AreLinesInRange t lines
 in_range t lines (r, is, holds) =
     subst (All (IsLineUpTo (event_total t))) (sym is)
     (All-from_recursion (IsLineUpTo (event_total t)) (lines_of r) (lines_range t NoPair (λ u v none. absurd none) r holds))

@@ -8,7 +8,7 @@ use Rattle.tso_evidence.specs.declared.refutations.RefutationLine.{RefutationLin
 use Rattle.tso_evidence.specs.Refutations.{IsRefutation}
 use Rattle.refutation_check.specs.declared.faults.RefutationFault.{RefutationFault}
 use Rattle.refutation_check.specs.Refutations.{RefutationHolds}
-use Rattle.refutation_check.specs.Refusals.{IsInRange, IsStructureFault, IsRefutationRefusal}
+use Rattle.refutation_check.specs.Refusals.{AreLinesInRange, IsStructureFault, IsRefutationRefusal}
 use Rattle.refutation_check.specs.Internal.Walks.{Walks}
 use Rattle.refutation_check.proofs.TreeFacts.{not_consistent}
 use Rattle.refutation_check.proofs.WalkFacts.{walked_through, walked_to_fault}
@@ -19,7 +19,7 @@ structure_of_none lines None none told = told
 structure_of_none lines (Some fault) none told = absurd cc
 
 -- of lines of a refutation whose numbers are in range
-pub told_of_walk : (t : TraceValue) (lines : List RefutationLine) (r : Result (Unit {0}) RefutationFault) → IsRefutation lines → IsInRange t lines →
+pub told_of_walk : (t : TraceValue) (lines : List RefutationLine) (r : Result (Unit {0}) RefutationFault) → IsRefutation lines → AreLinesInRange t lines →
     MatchResult r (λ _. Walks t [] [] 1 lines None) (λ fault. Walks t [] [] 1 lines (Some fault)) →
     MatchResult r (λ _. RefutationHolds t lines) (IsRefutationRefusal t lines)
 told_of_walk t lines (Ok x) whole range walks = walked_through t lines whole.0 whole.1 walks

@@ -8,7 +8,7 @@ use Rattle.tso_evidence.specs.Refutations.{Refutation, cycle, step, split, lines
 use Rattle.refutation_check.specs.declared.faults.RefutationFault.{RefutationFault}
 use Rattle.refutation_check.specs.declared.pairs.Pair.{Pair}
 use Rattle.refutation_check.specs.Refutations.{NoPair, WithPair, HoldsUnder, RefutationHolds}
-use Rattle.refutation_check.specs.Refusals.{HasFirstFault, IsLineFault}
+use Rattle.refutation_check.specs.Refusals.{HasFirstFault, IsFaultOfLines}
 use Rattle.refutation_check.specs.Internal.Pairs.{InForce, IsWith}
 use Rattle.refutation_check.specs.Internal.Walks.{IsAfter, LineHolds, Walks}
 use Rattle.refutation_check.proofs.PairFacts.{with_has, with_only, with_extends}
@@ -119,7 +119,7 @@ walked_through t lines r is walks = elim (whole_walk t r lines None is walks) [
 ]
 
 pub walked_to_fault : (t : TraceValue) (lines : List RefutationLine) (r : Refutation) (fault : RefutationFault) → lines ≡ lines_of r → Walks t [] [] 1 lines (Some fault) →
-    IsLineFault t lines fault
+    IsFaultOfLines t lines fault
 walked_to_fault t lines r fault is walks = elim (whole_walk t r lines (Some fault) is walks) [
   | inl told ↦ (
       let same : told.0 ≡ fault = cc in

@@ -11,7 +11,7 @@ use Rattle.tso_model.specs.Certs.{MeetsRule, IsPathIn}
 use Rattle.cert_check.specs.Refusals.{AreUpTo, IsStepUpTo, IsBase}
 use Rattle.refutation_check.specs.declared.faults.RefutationFault.{RefutationFault}
 use Rattle.refutation_check.specs.declared.faults.RefutationFault.TheVariants.{Misplaced, Unfinished, EventRange, BaseRefused, SideRefused, PathUnlisted, CaseRefused, CycleUnlisted, EmptyCycle}
-use Rattle.refutation_check.specs.Refutations.{NoPair, WithPair, AreTwoEvents, StepHolds, HoldsUnder}
+use Rattle.refutation_check.specs.Refutations.{NoPair, WithPair, AreTwoEvents, StepHoldsOver, HoldsUnder}
 
 -- ---- the structure
 
@@ -44,8 +44,8 @@ IsLineUpTo last (Else u v) = (u ≤ last) × (v ≤ last)
 IsLineUpTo last (Cycle numbers) = AreUpTo last numbers
 
 -- No number of the lines is above the number of events.
-abbrev pub IsInRange : TraceValue → List RefutationLine → Type 0
-IsInRange t lines = All (IsLineUpTo (event_total t)) lines
+abbrev pub AreLinesInRange : TraceValue → List RefutationLine → Type 0
+AreLinesInRange t lines = All (IsLineUpTo (event_total t)) lines
 
 -- ---- the lines, one after the other
 
@@ -82,7 +82,7 @@ abbrev pub HasFirstFault : TraceValue → (ℕ → ℕ → Type 0) → ℕ → R
 HasFirstFault t Pair number (cycle numbers) fault = HasCycleFault Pair number numbers fault
 HasFirstFault t Pair number (step s rest) fault =
     HasStepFault t Pair number s fault
-    ⊎ (StepHolds t Pair s × HasFirstFault t (WithPair Pair s.from s.to) (suc number) rest fault)
+    ⊎ (StepHoldsOver t Pair s × HasFirstFault t (WithPair Pair s.from s.to) (suc number) rest fault)
 -- the first part begins on the next line, and the second after its own, which follows the first part
 HasFirstFault t Pair number (split u v first second) fault =
     HasCaseFault t number u v fault
@@ -91,15 +91,15 @@ HasFirstFault t Pair number (split u v first second) fault =
     × HasFirstFault t (WithPair Pair v u) (suc (suc number + length (lines_of first))) second fault)
 
 -- The lines are those of a refutation whose first line with a fault has this one. Lines count from 1.
-abbrev pub IsLineFault : TraceValue → List RefutationLine → RefutationFault → Type 0
-IsLineFault t lines fault = (r : Refutation) × (lines ≡ lines_of r) × HasFirstFault t NoPair 1 r fault
+abbrev pub IsFaultOfLines : TraceValue → List RefutationLine → RefutationFault → Type 0
+IsFaultOfLines t lines fault = (r : Refutation) × (lines ≡ lines_of r) × HasFirstFault t NoPair 1 r fault
 
 -- The refusal of lines: their structure before all else, then their numbers, then the first line with a fault.
 abbrev pub IsRefutationRefusal : TraceValue → List RefutationLine → RefutationFault → Type 0
 IsRefutationRefusal t lines fault =
     IsStructureFault lines fault
-    ⊎ (IsRefutation lines × (fault ≡ EventRange) × (IsInRange t lines → ⊥))
-    ⊎ (IsInRange t lines × IsLineFault t lines fault)
+    ⊎ (IsRefutation lines × (fault ≡ EventRange) × (AreLinesInRange t lines → ⊥))
+    ⊎ (AreLinesInRange t lines × IsFaultOfLines t lines fault)
 
 -- ---- memory
 

@@ -21,8 +21,8 @@ abbrev pub AreTwoEvents : TraceValue → ℕ → ℕ → Type 0
 AreTwoEvents t u v = IsEvent t u × IsEvent t v × (u ≢ v)
 
 -- the step meets its rule, by a path over these pairs
-abbrev pub StepHolds : TraceValue → (ℕ → ℕ → Type 0) → CertStep → Type 0
-StepHolds t Pair s = MeetsRule t s.from s.to s.reason × IsPathIn Pair s.reason
+abbrev pub StepHoldsOver : TraceValue → (ℕ → ℕ → Type 0) → CertStep → Type 0
+StepHoldsOver t Pair s = MeetsRule t s.from s.to s.reason × IsPathIn Pair s.reason
 
 -- The refutation holds where these pairs are in force. Then no order of the model keeps all of them: one that keeps the pairs of a step's path
 -- keeps the step's own pair, and of the two pairs of a case each order keeps one.
@@ -30,7 +30,7 @@ abbrev pub HoldsUnder : TraceValue → (ℕ → ℕ → Type 0) → Refutation �
 -- a cycle of pairs in force, which isn't empty
 HoldsUnder t Pair (cycle numbers) = IsCycle Pair numbers
 -- a step that holds puts its pair in force
-HoldsUnder t Pair (step s rest) = StepHolds t Pair s × HoldsUnder t (WithPair Pair s.from s.to) rest
+HoldsUnder t Pair (step s rest) = StepHoldsOver t Pair s × HoldsUnder t (WithPair Pair s.from s.to) rest
 -- the first part holds where u comes before v, and the second where v comes before u
 HoldsUnder t Pair (split u v first second) =
     AreTwoEvents t u v × HoldsUnder t (WithPair Pair u v) first × HoldsUnder t (WithPair Pair v u) second

@@ -5,7 +5,7 @@ ghost use Rattle.tso_ops.specs.Events.{event_total};
 ghost use Rattle.tso_evidence.specs.Refutations.{IsRefutation};
 ghost use Rattle.tso_model.specs.Axioms.{IsConsistent};
 ghost use Rattle.refutation_check.specs.Refutations.{RefutationHolds};
-ghost use Rattle.refutation_check.specs.Refusals.{HasCase, IsInRange, IsRefutationRefusal};
+ghost use Rattle.refutation_check.specs.Refusals.{AreLinesInRange, HasCase, IsRefutationRefusal};
 ghost use Rattle.refutation_check.specs.Internal.Pairs.{IsKept};
 ghost use Rattle.refutation_check.specs.Internal.Walks.{Walks};
 
@@ -37,7 +37,7 @@ pub fn check_refutation(
     ensures no_order { IfOk result (λ said. OnOk said (IsConsistent trace.now → ⊥)) }
     ensures accepted { IfOk result (λ said. RefutationHolds trace.now lines.now → IsOk said) }
     ensures refused { IfOk result (λ said. IfErr said (IsRefutationRefusal trace.now lines.now)) }
-    ensures out_of_memory { IfErr result (λ _. HasCase lines.now ⊎ (IsRefutation lines.now × IsInRange trace.now lines.now)) }
+    ensures out_of_memory { IfErr result (λ _. HasCase lines.now ⊎ (IsRefutation lines.now × AreLinesInRange trace.now lines.now)) }
 {
     judge(alloc, trace, lines)
 }
@@ -49,7 +49,7 @@ fn judge(
     lines: &[RefutationLine],
 ) -> Result<Result<(), RefutationFault>, AllocError>
     ensures told { IfOk result (λ said. MatchResult said (λ _. RefutationHolds trace.now lines.now) (IsRefutationRefusal trace.now lines.now)) }
-    ensures out_of_memory { IfErr result (λ _. HasCase lines.now ⊎ (IsRefutation lines.now × IsInRange trace.now lines.now)) }
+    ensures out_of_memory { IfErr result (λ _. HasCase lines.now ⊎ (IsRefutation lines.now × AreLinesInRange trace.now lines.now)) }
     ensures kept { IsTrace trace.now }
 {
     let last = trace.events();
@@ -69,7 +69,7 @@ fn check_lines(
     lines: &[RefutationLine],
     mut pairs: PairsInForce,
 ) -> Result<Result<(), RefutationFault>, AllocError>
-    requires range { IsInRange trace.now lines.now }
+    requires range { AreLinesInRange trace.now lines.now }
     requires kept { IsKept pairs }
     requires nodes { pairs.table.nodes ≡ event_total trace.now + 1 }
     requires pairs { pairs.pairs.items ≡ [] }

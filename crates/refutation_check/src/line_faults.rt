@@ -1,7 +1,7 @@
 //! The fault of one line, where the pairs before it are in force.
 ghost use Rattle.std.specs.Prelude.{MatchOption};
 ghost use Rattle.refutation_check.specs.Refusals.{HasStepFault, HasCycleFault};
-ghost use Rattle.refutation_check.specs.Refutations.{StepHolds};
+ghost use Rattle.refutation_check.specs.Refutations.{StepHoldsOver};
 ghost use Rattle.order_paths.specs.Paths.{IsCycle};
 ghost use Rattle.refutation_check.specs.Internal.Pairs.{InForce, IsTableOf};
 ghost use Rattle.refutation_check.specs.Internal.Walks.{HasLineFault, LineHolds};
@@ -48,7 +48,7 @@ fn step_fault(
     step: &CertStep,
 ) -> Option<RefutationFault>
     requires { IsTableOf pairs.now.table pairs.now.pairs.items }
-    ensures { MatchOption result (StepHolds trace.now (InForce pairs.now.pairs.items) step.now) (HasStepFault trace.now (InForce pairs.now.pairs.items) number step.now) }
+    ensures { MatchOption result (StepHoldsOver trace.now (InForce pairs.now.pairs.items) step.now) (HasStepFault trace.now (InForce pairs.now.pairs.items) number step.now) }
 {
     let from = step.from as usize;
     let to = step.to as usize;

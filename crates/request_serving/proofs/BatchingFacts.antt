@@ -12,12 +12,12 @@ use Rattle.std.proofs.lemmas.List.{append-nil, length-append, map-append, take-a
 use Rattle.std.proofs.lemmas.List.Sums.{sum_by-append, sum_by-cons}
 use Rattle.request_options.specs.declared.batches.BatchPrinting.{BatchPrinting}
 use Rattle.trace_batches.specs.declared.begun.Batch.{Batch}
-use Rattle.trace_batches.specs.Batches.{AreResults, AreResultsOf, asked, BatchText, HasJudged, HasWritten, IsBatchFault, Judges, LeavesBatch, LeavesText, TextResults, WritesBatch, head_text, read_text, unread_text}
+use Rattle.trace_batches.specs.Batches.{AreResults, AreResultsOf, asked, BatchText, HasJudged, HasWritten, IsBatchFault, Judges, LeavesBatch, LeavesText, TextResults, WritesBatch, batch_head_text, readable_text, unreadable_text}
 use Rattle.text_streams.specs.Streams.{AppendsPrefix}
 use Rattle.trace_batches.proofs.WholeFacts.{begun, head_left, judged_left, judged_more}
 use Rattle.text_streams.specs.declared.faults.Fault.{Fault}
 use Rattle.trace_reports.specs.declared.answers.Answer.{Answer}
-use Rattle.request_serving.specs.Batches.{AreNamedTexts, AreTextsOfBatch, IsNamedText, are_several, told_name}
+use Rattle.request_serving.specs.Batches.{AreNamedTexts, AreTextsOfBatch, IsNamedText, are_several, name_in_lines}
 use Rattle.trace_reports.specs.Statuses.{status_of_answer}
 use Rattle.request_serving.specs.Endings.{EndsBatched, Outputs, WritesFaultLine}
 use Rattle.request_serving.specs.Internal.Batching.{files_in}
@@ -27,15 +27,15 @@ use Rattle.request_texts.proofs.KnownFacts.{known_reads}
 -- ---- texts of files of which less may be known
 
 module _ (name : Option (List ℕ)) (known remaining : Option (List ℕ)) (has : HasKnown known remaining) where
-  results_of_known : (printing : BatchPrinting) (results : TextResults) → AreResultsOf (asked printing) (read_text name remaining) results → AreResultsOf (asked printing) (read_text name known) results
+  results_of_known : (printing : BatchPrinting) (results : TextResults) → AreResultsOf (asked printing) (readable_text name remaining) results → AreResultsOf (asked printing) (readable_text name known) results
   results_of_known printing results are = (are.0, are.1, known_reads known remaining has (λ stream. AreResults (asked printing) stream results.pieces results.judgments) are.2)
 
-  judges_known : (before after : Batch) (old new e f : Option (List ℕ)) → Judges (read_text name remaining) before after old new e f → Judges (read_text name known) before after old new e f
+  judges_known : (before after : Batch) (old new e f : Option (List ℕ)) → Judges (readable_text name remaining) before after old new e f → Judges (readable_text name known) before after old new e f
   judges_known before after old new e f judges printing all judged =
       let one = judges printing all judged in
       (one.0, results_of_known printing one.0 one.1, one.2, one.3, one.4)
 
-  leaves_known : (before : Batch) (old new e f : Option (List ℕ)) → LeavesText (read_text name remaining) before old new e f → LeavesText (read_text name known) before old new e f
+  leaves_known : (before : Batch) (old new e f : Option (List ℕ)) → LeavesText (readable_text name remaining) before old new e f → LeavesText (readable_text name known) before old new e f
   leaves_known before old new e f left printing all judged =
       let one = left printing all judged in
       (one.0, results_of_known printing one.0 one.1, one.2, one.3)
@@ -43,36 +43,36 @@ module _ (name : Option (List ℕ)) (known remaining : Option (List ℕ)) (has :
 -- the text of an opened file, and of one that couldn't be opened
 module _ (name input : Option (List ℕ)) (files : List ℕ → Option (List ℕ)) (file : List ℕ) where
   pub in_file : {E : Type 0} (remaining : Option (List ℕ)) → HasKnown (files file) remaining → (before after : Batch) (old new e f : Option (List ℕ)) (outcome : Result Unit E) →
-      OnOk outcome (Judges (read_text name remaining) before after old new e f) → OnOk outcome ((text : BatchText) × IsNamedText name input files (Some file) text × Judges text before after old new e f)
-  in_file remaining has before after old new e f (Ok done) judges = (read_text name (files file), inl refl, judges_known name (files file) remaining has before after old new e f judges)
+      OnOk outcome (Judges (readable_text name remaining) before after old new e f) → OnOk outcome ((text : BatchText) × IsNamedText name input files (Some file) text × Judges text before after old new e f)
+  in_file remaining has before after old new e f (Ok done) judges = (readable_text name (files file), inl refl, judges_known name (files file) remaining has before after old new e f judges)
   in_file remaining has before after old new e f (Err fault) judges = tt
 
   pub left_in_file : {E : Type 0} (remaining : Option (List ℕ)) → HasKnown (files file) remaining → (before : Batch) (old new e f : Option (List ℕ)) (outcome : Result Unit E) →
-      OnErr outcome (LeavesText (read_text name remaining) before old new e f) → OnErr outcome ((text : BatchText) × IsNamedText name input files (Some file) text × LeavesText text before old new e f)
+      OnErr outcome (LeavesText (readable_text name remaining) before old new e f) → OnErr outcome ((text : BatchText) × IsNamedText name input files (Some file) text × LeavesText text before old new e f)
   left_in_file remaining has before old new e f (Ok done) left = tt
-  left_in_file remaining has before old new e f (Err fault) left = (read_text name (files file), inl refl, leaves_known name (files file) remaining has before old new e f left)
+  left_in_file remaining has before old new e f (Err fault) left = (readable_text name (files file), inl refl, leaves_known name (files file) remaining has before old new e f left)
 
   pub in_no_file : {E : Type 0} (before after : Batch) (old new e f : Option (List ℕ)) (outcome : Result Unit E) →
-      OnOk outcome (Judges (unread_text name) before after old new e f) → OnOk outcome ((text : BatchText) × IsNamedText name input files (Some file) text × Judges text before after old new e f)
-  in_no_file before after old new e f (Ok done) judges = (unread_text name, inr refl, judges)
+      OnOk outcome (Judges (unreadable_text name) before after old new e f) → OnOk outcome ((text : BatchText) × IsNamedText name input files (Some file) text × Judges text before after old new e f)
+  in_no_file before after old new e f (Ok done) judges = (unreadable_text name, inr refl, judges)
   in_no_file before after old new e f (Err fault) judges = tt
 
   pub left_in_no_file : {E : Type 0} (before : Batch) (old new e f : Option (List ℕ)) (outcome : Result Unit E) →
-      OnErr outcome (LeavesText (unread_text name) before old new e f) → OnErr outcome ((text : BatchText) × IsNamedText name input files (Some file) text × LeavesText text before old new e f)
+      OnErr outcome (LeavesText (unreadable_text name) before old new e f) → OnErr outcome ((text : BatchText) × IsNamedText name input files (Some file) text × LeavesText text before old new e f)
   left_in_no_file before old new e f (Ok done) left = tt
-  left_in_no_file before old new e f (Err fault) left = (unread_text name, inr refl, left)
+  left_in_no_file before old new e f (Err fault) left = (unreadable_text name, inr refl, left)
 
 -- the text on standard input
 module _ (name input : Option (List ℕ)) (files : List ℕ → Option (List ℕ)) where
   pub in_input : {E : Type 0} (before after : Batch) (old new e f : Option (List ℕ)) (outcome : Result Unit E) →
-      OnOk outcome (Judges (read_text name input) before after old new e f) → OnOk outcome ((text : BatchText) × IsNamedText name input files None text × Judges text before after old new e f)
-  in_input before after old new e f (Ok done) judges = (read_text name input, refl, judges)
+      OnOk outcome (Judges (readable_text name input) before after old new e f) → OnOk outcome ((text : BatchText) × IsNamedText name input files None text × Judges text before after old new e f)
+  in_input before after old new e f (Ok done) judges = (readable_text name input, refl, judges)
   in_input before after old new e f (Err fault) judges = tt
 
   pub left_in_input : {E : Type 0} (before : Batch) (old new e f : Option (List ℕ)) (outcome : Result Unit E) →
-      OnErr outcome (LeavesText (read_text name input) before old new e f) → OnErr outcome ((text : BatchText) × IsNamedText name input files None text × LeavesText text before old new e f)
+      OnErr outcome (LeavesText (readable_text name input) before old new e f) → OnErr outcome ((text : BatchText) × IsNamedText name input files None text × LeavesText text before old new e f)
   left_in_input before old new e f (Ok done) left = tt
-  left_in_input before old new e f (Err fault) left = (read_text name input, refl, left)
+  left_in_input before old new e f (Err fault) left = (readable_text name input, refl, left)
 
 -- ---- texts of a batch
 
@@ -84,9 +84,9 @@ module _ (several : Bool) (input : Option (List ℕ)) (bytes : List ℕ → Opti
   named-append files others texts more first second = absurd first
 
   -- where each file is opened
-  some_text : (file : Option (List ℕ)) → (text : BatchText) × IsNamedText (told_name several file) input bytes file text
-  some_text None = (read_text (told_name several None) input, refl)
-  some_text (Some name) = (read_text (told_name several (Some name)) (bytes name), inl refl)
+  some_text : (file : Option (List ℕ)) → (text : BatchText) × IsNamedText (name_in_lines several file) input bytes file text
+  some_text None = (readable_text (name_in_lines several None) input, refl)
+  some_text (Some name) = (readable_text (name_in_lines several (Some name)) (bytes name), inl refl)
 
   some_named : (files : List (Option (List ℕ))) → (texts : List BatchText) × AreNamedTexts several input bytes files texts
   some_named [] = ([], tt)
@@ -106,7 +106,7 @@ module _ (several : Bool) (input : Option (List ℕ)) (bytes : List ℕ → Opti
 
 -- nothing but the head was written, or a prefix of it
 pub none_left : (printing : BatchPrinting) (files : List (Option (List ℕ))) (input : Option (List ℕ)) (bytes : List ℕ → Option (List ℕ)) (old new before : Option (List ℕ)) →
-    AppendsPrefix old new (head_text printing) → (texts : List BatchText) × AreTextsOfBatch files input bytes texts × LeavesBatch printing texts old new before before
+    AppendsPrefix old new (batch_head_text printing) → (texts : List BatchText) × AreTextsOfBatch files input bytes texts × LeavesBatch printing texts old new before before
 none_left printing files input bytes old new before written =
     let some = some_named (are_several files) input bytes files in
     (some.0, some.1, head_left printing some.0 old new before written)
@@ -210,7 +210,7 @@ module _ {R : Type 0} (remaining : R → Option (List ℕ)) (several : Bool) (in
     pub unread : list_all is_some files ≡ true → reader ≡ reader_before
     pub taken : list_all is_some files ≡ false → IfSome (remaining reader_before) (λ all. Consumes (remaining reader_before) (remaining reader) all)
 
-  pub none_judged : (batch : Batch) (old written before : Option (List ℕ)) (opened : Option (List (List ℕ))) (reader : R) → HasJudged batch printing [] → Appends old written (head_text printing) →
+  pub none_judged : (batch : Batch) (old written before : Option (List ℕ)) (opened : Option (List (List ℕ))) (reader : R) → HasJudged batch printing [] → Appends old written (batch_head_text printing) →
       AreJudged batch old written before before opened opened reader reader bytes []
   none_judged batch old written before opened reader judged head = record {
     each = ([], tt, begun batch printing old written before judged head);
@@ -223,15 +223,15 @@ module _ {R : Type 0} (remaining : R → Option (List ℕ)) (several : Bool) (in
   module _ (mid : Batch) (old w1 before e1 : Option (List ℕ)) (o0 o1 : Option (List (List ℕ))) (r0 r1 : R) (now : List ℕ → Option (List ℕ)) (files : List (Option (List ℕ))) (is_input : input ≡ remaining r0)
       (so_far : AreJudged mid old w1 before e1 o0 o1 r0 r1 now files) (file : Option (List ℕ)) (later : List (Option (List ℕ))) (few : count_by is_none (files ++ file ∷ later) ≤ 1) where
     -- the text that is judged next is the next of the batch
-    is_next : (text : BatchText) (name : Option (List ℕ)) → name ≡ told_name several file → IsNamedText name (remaining r1) now file text → IsNamedText (told_name several file) input bytes file text
+    is_next : (text : BatchText) (name : Option (List ℕ)) → name ≡ name_in_lines several file → IsNamedText name (remaining r1) now file text → IsNamedText (name_in_lines several file) input bytes file text
     is_next text name is = go file few is
       where
-        go : (f : Option (List ℕ)) → count_by is_none (files ++ f ∷ later) ≤ 1 → name ≡ told_name several f → IsNamedText name (remaining r1) now f text → IsNamedText (told_name several f) input bytes f text
-        go None few is one = one ∙ ap₂ read_text is (ap remaining (so_far.unread (one_input files later few)) ∙ sym is_input)
-        go (Some n) few is (inl one) = inl (one ∙ ap₂ (λ a (fs : List ℕ → Option (List ℕ)). read_text a (fs n)) is so_far.same)
-        go (Some n) few is (inr one) = inr (one ∙ ap unread_text is)
+        go : (f : Option (List ℕ)) → count_by is_none (files ++ f ∷ later) ≤ 1 → name ≡ name_in_lines several f → IsNamedText name (remaining r1) now f text → IsNamedText (name_in_lines several f) input bytes f text
+        go None few is one = one ∙ ap₂ readable_text is (ap remaining (so_far.unread (one_input files later few)) ∙ sym is_input)
+        go (Some n) few is (inl one) = inl (one ∙ ap₂ (λ a (fs : List ℕ → Option (List ℕ)). readable_text a (fs n)) is so_far.same)
+        go (Some n) few is (inr one) = inr (one ∙ ap unreadable_text is)
 
-    pub next_judged : (after : Batch) (w2 e2 : Option (List ℕ)) (o2 : Option (List (List ℕ))) (r2 : R) (later_now : List ℕ → Option (List ℕ)) (name : Option (List ℕ)) → name ≡ told_name several file →
+    pub next_judged : (after : Batch) (w2 e2 : Option (List ℕ)) (o2 : Option (List (List ℕ))) (r2 : R) (later_now : List ℕ → Option (List ℕ)) (name : Option (List ℕ)) → name ≡ name_in_lines several file →
         ((text : BatchText) × IsNamedText name (remaining r1) now file text × Judges text mid after w1 w2 e1 e2) → later_now ≡ now → OpensNext o1 o2 (option_to_list file) → IfSome file (λ _. r2 ≡ r1) →
         (file ≡ None → IfSome (remaining r1) (λ all. Consumes (remaining r1) (remaining r2) all)) → AreJudged after old w2 before e2 o0 o2 r0 r2 later_now (files ++ file ∷ [])
     next_judged after w2 e2 o2 r2 later_now name is one same opens unread taken = record {
@@ -261,7 +261,7 @@ module _ {R : Type 0} (remaining : R → Option (List ℕ)) (several : Bool) (in
             subst (λ (r : R). IfSome (remaining r0) (λ all. Consumes (remaining r0) (remaining r) all)) (sym kept) (so_far.taken (sym (and-true (list_all is_some files)) ∙ some))
 
     -- what is left where a fault comes while it is judged
-    pub next_left : (w2 e2 : Option (List ℕ)) (name : Option (List ℕ)) → name ≡ told_name several file → ((text : BatchText) × IsNamedText name (remaining r1) now file text × LeavesText text mid w1 w2 e1 e2) →
+    pub next_left : (w2 e2 : Option (List ℕ)) (name : Option (List ℕ)) → name ≡ name_in_lines several file → ((text : BatchText) × IsNamedText name (remaining r1) now file text × LeavesText text mid w1 w2 e1 e2) →
         (texts : List BatchText) × AreNamedTexts several input bytes (files ++ file ∷ later) texts × LeavesBatch printing texts old w2 before e2
     next_left w2 e2 name is one =
         let judged = so_far.each in

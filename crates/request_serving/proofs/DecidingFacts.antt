@@ -3,18 +3,18 @@ use Rattle.std.proofs.Common.{◌≡◌, ℕ, List, take, None, Some, Result, If
 use Rattle.std.specs.Prelude.{Option}
 use Rattle.std.specs.Io.KnownBytes.{Appends}
 use Rattle.command_line.specs.declared.options.Presentation.{Presentation}
-use Rattle.trace_streams.specs.NthPieces.{IsKeptOfNth}
+use Rattle.trace_streams.specs.NthTraceTexts.{IsKeptOfNth}
 use Rattle.trace_reports.specs.declared.answers.Answer.{Answer}
 use Rattle.trace_reports.specs.declared.answers.Answer.TheVariants.{Refused}
-use Rattle.trace_decisions.specs.DecisionTexts.{IsDecisionOf, IsDecisionOfReader}
-use Rattle.trace_decisions.proofs.DecisionFacts.{decision_of_prefix}
-use Rattle.trace_decisions.specs.EvidenceReports.{IsVerification, IsVerificationOfReaders}
+use Rattle.trace_decisions.specs.DecisionTexts.{IsDecisionOf, IsDecisionOfReader, IsDecisionText}
+use Rattle.trace_judging.proofs.EvidenceFacts.{report_of_prefix}
+use Rattle.trace_judging.proofs.ReaderFacts.{text_of_prefix}
+use Rattle.trace_decisions.specs.EvidenceReports.{IsEvidenceReport, IsVerification, IsVerificationOfReaders}
 use Rattle.text_streams.specs.declared.faults.Fault.{Fault}
 use Rattle.text_streams.specs.declared.faults.Fault.TheVariants.{Write}
 use Rattle.trace_streams.specs.Limits.{trace_read_limit}
 use Rattle.text_streams.specs.Streams.{AppendsPrefix}
 use Rattle.text_streams.specs.WrittenTexts.{LeavesAtFault, WritesWhole}
-use Rattle.trace_streams.proofs.InputFacts.{refusal_of_prefix, spells_of_prefix}
 use Rattle.text_streams.specs.Readings.{ReadsAs}
 use Rattle.text_streams.proofs.ReadingFacts.{reads_more}
 use Rattle.request_serving.specs.Deciding.{IsDecided, IsVerificationOfNth, IsVerifiedBy}
@@ -40,14 +40,10 @@ verification_of_known nth trace traces known evidence has also text answer repor
     known_reads trace traces has (λ input. IsSaidOfNth Refused nth (IsVerifiedBy known) input text answer)
     (reads_more (λ input. said_as_well Refused (IsVerifiedBy evidence) (IsVerifiedBy known) implied nth input text answer) traces report)
 
--- ---- what is said of the first bytes of a piece is said of the piece
-
-verification_of_first : (trace evidence text : List ℕ) (answer : Answer) → IsVerification (take trace_read_limit trace) evidence text answer → IsVerification trace evidence text answer
-verification_of_first trace evidence text answer (inl p) = inl (p.0, spells_of_prefix trace p.0 p.1, p.2, p.3)
-verification_of_first trace evidence text answer (inr p) = inr (p.0, p.1, refusal_of_prefix trace p.0 p.1 p.2, p.3, p.4)
+-- ---- what is said of the first bytes of a trace text is said of the trace text
 
 verified_of_first : (evidence : Option (List ℕ)) (piece text : List ℕ) (answer : Answer) → IsVerifiedBy evidence (take trace_read_limit piece) text answer → IsVerifiedBy evidence piece text answer
-verified_of_first evidence piece text answer = reads_more (λ input. verification_of_first piece input text answer) evidence
+verified_of_first evidence piece text answer = reads_more (λ input. report_of_prefix IsEvidenceReport Refused piece input text answer) evidence
 
 -- ---- a decision on the trace of a number
 
@@ -56,7 +52,7 @@ module _ (presentation : Presentation) (effort number : ℕ) (remaining : Option
   IsText = IsDecisionOf (decided_as presentation) (refused_as presentation) effort
 
   of_first : (piece text : List ℕ) (answer : Answer) → IsText (take trace_read_limit piece) text answer → IsText piece text answer
-  of_first = decision_of_prefix (decided_as presentation) (refused_as presentation) (shows_no_whole presentation) effort
+  of_first = text_of_prefix (IsDecisionText (decided_as presentation) effort) Refused (refused_as presentation) (shows_no_whole presentation)
 
   abbrev IsTextOfKept : List ℕ → List ℕ → Answer → Type 0
   IsTextOfKept kept = IsDecisionOfReader (decided_as presentation) (refused_as presentation) effort (Some kept)

@@ -14,7 +14,7 @@ use Rattle.trace_reports.specs.declared.verdicts.Verdict.TheVariants.{Refused}
 use Rattle.request_texts.specs.NthTraces.{IsSaidOfNth}
 use Rattle.request_texts.specs.OpenedFiles.{HasKnown}
 use Rattle.request_texts.proofs.KnownFacts.{known_reads, said_as_well}
-use Rattle.request_serving.specs.Endings.{Ends, IsCheckOfNth, IsCheckedBy, IsPresented, Outputs, WritesFaultLine}
+use Rattle.request_serving.specs.Endings.{Ends, IsCheckOfNth, IsCheckedBy, IsVerdictAsAsked, Outputs, WritesFaultLine}
 use Rattle.request_serving.specs.Presentations.{refused_as, said_as}
 
 -- ---- reports of files of which less may be known
@@ -28,7 +28,7 @@ check_of_known nth trace traces cert certs has also text verdict report =
     (reads_more (λ input. said_as_well Refused (IsCheckedBy certs) (IsCheckedBy cert) implied nth input text verdict) traces report)
 
 pub presented_of_known : (presentation : Presentation) (nth : Option ℕ) (known remaining : Option (List ℕ)) → HasKnown known remaining → (text : List ℕ) (verdict : Verdict) →
-    IsPresented presentation nth remaining text verdict → IsPresented presentation nth known text verdict
+    IsVerdictAsAsked presentation nth remaining text verdict → IsVerdictAsAsked presentation nth known text verdict
 presented_of_known presentation nth known remaining has text verdict =
     known_reads known remaining has (λ input. IsSaidOfNth Refused nth (IsTextOfInput (said_as presentation) (refused_as presentation)) input text verdict)
 

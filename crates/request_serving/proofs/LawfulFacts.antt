@@ -24,7 +24,7 @@ use Rattle.run_serving.specs.BenchUnits.{is_lawful_kind, is_lawful_under_all, or
 use Rattle.request_serving.specs.Endings.{EndsAsAsked, EndsByText, EndsRun, EndsRunTimes, Outputs}
 use Rattle.request_serving.specs.LawfulRequests.{RunsLawfully, SpellsForLawfulUnit, runs_on_lawful_unit}
 use Rattle.request_texts.specs.OpenedFiles.{text_bytes}
-use Rattle.run_serving.specs.Printing.{IsPrintedOf, Presents, unit_of}
+use Rattle.run_serving.specs.Printing.{IsPrintedOf, IsRenderedRecord, unit_of}
 use Rattle.run_serving.specs.Replaying.{IsReplayOf, IsReplayText, IsScheduledText}
 use Rattle.run_serving.specs.Running.{AreRunTraces, IsRunPrinted, IsRunText, IsRunTimesText, LeavesRunTimes}
 use Rattle.trace_reports.specs.Statuses.{status_of}
@@ -55,7 +55,7 @@ whole_read None reads = (reads.bytes, tt, reads.of_read)
 whole_read (Some all) reads = (all, refl, reads.of_all)
 
 -- what is printed of a lawful record doesn't end as a violation
-record_status : (printing : Printing) (r : RecordedValue) (account : Account) (text : List ℕ) (status : ℕ) → r.lawful ≡ true → Presents printing r account text status → status ≢ 3
+record_status : (printing : Printing) (r : RecordedValue) (account : Account) (text : List ℕ) (status : ℕ) → r.lawful ≡ true → IsRenderedRecord printing r account text status → status ≢ 3
 record_status Trace r account text status lawful prints = λ three. omega (arith, prints.1, three)
 record_status Report r account text status lawful prints = λ three.
     let ends : status ≡ 0 = prints.5 ∙ ap status_of (prints.3 lawful) in

@@ -6,19 +6,20 @@ use Rattle.std.specs.Io.KnownBytes.{Appends, Keeps}
 use Rattle.std.proofs.KnownBytes.{Appends-kept}
 use Rattle.request_options.specs.declared.logs.LogOptions.{LogOptions}
 use Rattle.trace_reports.specs.declared.answers.Answer.{Answer}
-use Rattle.log_reports.specs.LogReports.{IsLogReport, IsLogReportOfReader}
+use Rattle.log_reports.specs.LogReports.{IsLogReport}
 use Rattle.text_streams.specs.Streams.{AppendsPrefix}
 use Rattle.text_streams.specs.WrittenTexts.{LeavesAtFault, WritesWhole}
 use Rattle.text_streams.specs.declared.faults.Fault.{Fault}
 use Rattle.text_streams.specs.declared.faults.Fault.TheVariants.{OutOfMemory, Read, Write, NoThread, Missing}
-use Rattle.request_serving.specs.Endings.{EndsWithNotes, Outputs, WritesFaultLine, fault_line}
+use Rattle.request_serving.specs.Endings.{EndsWithNotes, IsLogged, Outputs, WritesFaultLine, fault_line}
+use Rattle.request_serving.specs.Presentations.{log_refused_as, logged_as}
 use Rattle.request_texts.specs.OpenedFiles.{HasKnown}
 use Rattle.request_texts.proofs.KnownFacts.{known_reads}
 
 -- the report of a file of which less may be known
-pub logged_of_known : (options : LogOptions) (known remaining : Option (List ℕ)) → HasKnown known remaining → (text : List ℕ) (verdict : Answer) → IsLogReportOfReader options remaining text verdict →
-    IsLogReportOfReader options known text verdict
-logged_of_known options known remaining has text verdict = known_reads known remaining has (λ bytes. IsLogReport options bytes text verdict)
+pub logged_of_known : (options : LogOptions) (known remaining : Option (List ℕ)) → HasKnown known remaining → (text : List ℕ) (verdict : Answer) → IsLogged options remaining text verdict →
+    IsLogged options known text verdict
+logged_of_known options known remaining has text verdict = known_reads known remaining has (λ bytes. IsLogReport (logged_as options.form) (log_refused_as options.form) options bytes text verdict)
 
 -- ---- what is written to the errors before and after
 

@@ -5,33 +5,34 @@ use Rattle.std.specs.Global.{Vec}
 use Rattle.std.specs.Io.KnownBytes.{Appends}
 use Rattle.command_line.specs.declared.options.Presentation.{Presentation}
 use Rattle.command_line.specs.declared.options.Presentation.TheVariants.{Report, Explanation, Picture, FieldPicture}
-use Rattle.trace_streams.specs.NthPieces.{IsKeptOfNth, IsNthPiece}
-use Rattle.trace_streams.proofs.PieceFacts.{one_list_of_pieces}
+use Rattle.trace_streams.specs.NthTraceTexts.{IsKeptOfNth, IsNthTraceText}
+use Rattle.trace_streams.proofs.TraceTextFacts.{one_list_of_trace_texts}
 use Rattle.trace_explanation.specs.Explained.{whole_explained}
 use Rattle.text_streams.specs.declared.faults.Fault.{Fault}
 use Rattle.text_streams.specs.declared.faults.Fault.TheVariants.{Write}
-use Rattle.trace_judging.specs.Checks.{IsCheckReport}
+use Rattle.trace_judging.specs.Checks.{IsCertReport}
 use Rattle.trace_streams.specs.Limits.{trace_read_limit}
 use Rattle.text_streams.specs.Streams.{AppendsPrefix}
 use Rattle.trace_judging.specs.WrittenReports.{IsCheckReportOfReaders}
 use Rattle.text_streams.specs.WrittenTexts.{LeavesAtFault, WritesWhole}
 use Rattle.trace_streams.proofs.InputFacts.{refusal_of_prefix, spells_of_prefix}
+use Rattle.trace_judging.proofs.EvidenceFacts.{report_of_prefix}
 use Rattle.trace_judging.proofs.ReaderFacts.{ShowsNoWhole, text_of_prefix}
 use Rattle.text_streams.proofs.StreamFacts.{leaves_prefix, faults_as, writes_as}
 use Rattle.trace_reports.specs.declared.verdicts.Verdict.{Verdict}
 use Rattle.trace_reports.specs.declared.verdicts.Verdict.TheVariants.{Refused}
 use Rattle.text_streams.specs.Readings.{ReadsAs}
-use Rattle.trace_reports.specs.Renderings.{IsTextOfInput, IsTextOfReader}
+use Rattle.trace_reports.specs.Renderings.{IsTextOfInput, IsTextOfReader, IsTextOfTrace}
 use Rattle.text_streams.proofs.ReadingFacts.{reads_more}
 use Rattle.tso_text.specs.Refusals.{IsRefusedTrace}
 use Rattle.tso_text.proofs.TextLaws.{trace_laws}
-use Rattle.request_serving.specs.Endings.{IsCheckOfNth, IsCheckedBy, IsPresented}
+use Rattle.request_serving.specs.Endings.{IsCheckOfNth, IsCheckedBy, IsVerdictAsAsked}
 use Rattle.request_serving.specs.Presentations.{refused_as, said_as}
 use Rattle.request_texts.specs.NthTraces.{IsRefusedNth, IsSaidOfNth, nth_refusal}
 
--- ---- what is said of the first bytes of a piece is said of the piece
+-- ---- what is said of the first bytes of a trace text is said of the trace text
 
-pub shows_no_whole : (presentation : Presentation) → ShowsNoWhole (said_as presentation) (refused_as presentation)
+pub shows_no_whole : (presentation : Presentation) → ShowsNoWhole (refused_as presentation)
 shows_no_whole Report = λ a b why. refl
 shows_no_whole Explanation = whole_explained
 shows_no_whole Picture = λ a b why. refl
@@ -39,23 +40,19 @@ shows_no_whole FieldPicture = λ a b why. refl
 
 presented_of_first : (presentation : Presentation) (piece text : List ℕ) (verdict : Verdict) → IsTextOfInput (said_as presentation) (refused_as presentation) (take trace_read_limit piece) text verdict →
     IsTextOfInput (said_as presentation) (refused_as presentation) piece text verdict
-presented_of_first presentation piece text verdict = text_of_prefix (said_as presentation) (refused_as presentation) (shows_no_whole presentation) piece text verdict
-
-check_of_first : (trace cert text : List ℕ) (verdict : Verdict) → IsCheckReport (take trace_read_limit trace) cert text verdict → IsCheckReport trace cert text verdict
-check_of_first trace cert text verdict (inl p) = inl (p.0, spells_of_prefix trace p.0 p.1, p.2, p.3)
-check_of_first trace cert text verdict (inr p) = inr (p.0, p.1, refusal_of_prefix trace p.0 p.1 p.2, p.3, p.4)
+presented_of_first presentation piece text verdict = text_of_prefix (IsTextOfTrace (said_as presentation)) Refused (refused_as presentation) (shows_no_whole presentation) piece text verdict
 
 checked_of_first : (certs : Option (List ℕ)) (piece text : List ℕ) (verdict : Verdict) → IsCheckedBy certs (take trace_read_limit piece) text verdict → IsCheckedBy certs piece text verdict
-checked_of_first certs piece text verdict = reads_more (λ cert. check_of_first piece cert text verdict) certs
+checked_of_first certs piece text verdict = reads_more (λ cert. report_of_prefix IsCertReport Refused piece cert text verdict) certs
 
--- a piece that is refused is so by its first bytes
+-- a trace text that is refused is so by its first bytes
 refused_first : (piece : List ℕ) → IsRefusedTrace piece → IsRefusedTrace (take trace_read_limit piece)
 refused_first piece refused = elim (trace_laws.either (take trace_read_limit piece)) [
   | inl spelled ↦ absurd (trace_laws.not_both piece spelled.0 refused.0 refused.1 (spells_of_prefix piece spelled.0 spelled.1) refused.2)
   | inr is ↦ is
 ]
 
--- ---- what was read of the piece of a number
+-- ---- what was read of the trace text of a number
 
 -- something was kept of it, which is this
 kept_is : (kept : List ℕ) (piece : Option (List ℕ)) → Some kept ≡ option_map (take trace_read_limit) piece → (trace : List ℕ) × (piece ≡ Some trace) × (kept ≡ take trace_read_limit trace)
@@ -76,14 +73,14 @@ module _ {X : Type 0} (refused : X) (Is : List ℕ → List ℕ → X → Type 0
       go : (stream : List ℕ) → IsKeptOfNth number stream (Some kept) → IsSaidOfNth refused (Some number) Is stream text said
       go stream of =
           let trace = kept_is kept of.0 of.2 in
-          (Some trace.0, subst (IsNthPiece number stream) trace.1 of.1, of_first trace.0 text said (subst (λ bytes. Is bytes text said) trace.2 is))
+          (Some trace.0, subst (IsNthTraceText number stream) trace.1 of.1, of_first trace.0 text said (subst (λ bytes. Is bytes text said) trace.2 is))
 
   said_of_none : ReadsAs remaining (λ stream. IsKeptOfNth number stream None) → (text : List ℕ) (said : X) → text ≡ nth_refusal → said ≡ refused →
       ReadsAs remaining (λ stream. IsSaidOfNth refused (Some number) Is stream text said)
   said_of_none reads text said same answered = reads_more go remaining reads
     where
       go : (stream : List ℕ) → IsKeptOfNth number stream None → IsSaidOfNth refused (Some number) Is stream text said
-      go stream of = (None, subst (IsNthPiece number stream) (none_is of.0 of.2) of.1, (same, answered))
+      go stream of = (None, subst (IsNthTraceText number stream) (none_is of.0 of.2) of.1, (same, answered))
 
   -- that there are fewer was written, or a prefix of it
   pub fewer_written : ReadsAs remaining (λ stream. IsKeptOfNth number stream None) → (old new : Option (List ℕ)) (outcome : Result X Fault) → IfOk outcome (λ said. (said ≡ refused) × Appends old new nth_refusal) →
@@ -98,7 +95,7 @@ module _ {X : Type 0} (refused : X) (Is : List ℕ → List ℕ → X → Type 0
       leaves_prefix (λ text said. ReadsAs remaining (λ stream. IsSaidOfNth refused (Some number) Is stream text said)) old new nth_refusal nth_refusal refused fault
       (said_of_none reads nth_refusal refused refl refl) refl left.1 left.0
 
--- what was kept of the piece, as it was read
+-- what was kept of the trace text, as it was read
 pub kept_read : (number : ℕ) (remaining : Option (List ℕ)) (found : Option (Vec ℕ)) (piece : Vec ℕ) (bytes : List ℕ) → ReadsAs remaining (λ stream. IsKeptOfNth number stream (option_map (λ piece. piece.items) found)) →
     found ≡ Some piece → bytes ≡ piece.items → ReadsAs remaining (λ stream. IsKeptOfNth number stream (Some bytes))
 kept_read number remaining found piece bytes reads is same =
@@ -116,22 +113,22 @@ module _ (presentation : Presentation) (number : ℕ) (remaining : Option (List 
   IsText = IsTextOfInput (said_as presentation) (refused_as presentation)
 
   module _ (kept : List ℕ) (reads : ReadsAs remaining (λ stream. IsKeptOfNth number stream (Some kept))) where
-    of_kept : (text : List ℕ) (verdict : Verdict) → IsTextOfReader (said_as presentation) (refused_as presentation) (Some kept) text verdict → IsPresented presentation (Some number) remaining text verdict
+    of_kept : (text : List ℕ) (verdict : Verdict) → IsTextOfReader (said_as presentation) (refused_as presentation) (Some kept) text verdict → IsVerdictAsAsked presentation (Some number) remaining text verdict
     of_kept text verdict is = said_of_kept Refused IsText (presented_of_first presentation) number remaining kept reads text verdict is.of_all
 
     pub nth_presented : IfOk outcome (WritesWhole (IsTextOfReader (said_as presentation) (refused_as presentation) (Some kept)) old new) →
-        IfOk outcome (WritesWhole (IsPresented presentation (Some number) remaining) old new)
+        IfOk outcome (WritesWhole (IsVerdictAsAsked presentation (Some number) remaining) old new)
     nth_presented = writes_as _ _ of_kept old new outcome
 
     pub nth_left : IfErr outcome (LeavesAtFault (IsTextOfReader (said_as presentation) (refused_as presentation) (Some kept)) old new) →
-        IfErr outcome (LeavesAtFault (IsPresented presentation (Some number) remaining) old new)
+        IfErr outcome (LeavesAtFault (IsVerdictAsAsked presentation (Some number) remaining) old new)
     nth_left = faults_as _ _ of_kept old new outcome
 
   module _ (reads : ReadsAs remaining (λ stream. IsKeptOfNth number stream None)) where
-    pub fewer_presented : IfOk outcome (λ verdict. (verdict ≡ Refused) × Appends old new nth_refusal) → IfOk outcome (WritesWhole (IsPresented presentation (Some number) remaining) old new)
+    pub fewer_presented : IfOk outcome (λ verdict. (verdict ≡ Refused) × Appends old new nth_refusal) → IfOk outcome (WritesWhole (IsVerdictAsAsked presentation (Some number) remaining) old new)
     fewer_presented = fewer_written Refused IsText (presented_of_first presentation) number remaining reads old new outcome
 
-    pub fewer_presented_left : IfErr outcome (λ fault. (fault ≡ Write) × AppendsPrefix old new nth_refusal) → IfErr outcome (LeavesAtFault (IsPresented presentation (Some number) remaining) old new)
+    pub fewer_presented_left : IfErr outcome (λ fault. (fault ≡ Write) × AppendsPrefix old new nth_refusal) → IfErr outcome (LeavesAtFault (IsVerdictAsAsked presentation (Some number) remaining) old new)
     fewer_presented_left = fewer_left Refused IsText (presented_of_first presentation) number remaining reads old new outcome
 
 -- ---- a certificate against the trace of a number
@@ -154,7 +151,7 @@ module _ (number : ℕ) (traces certs : Option (List ℕ)) (old new : Option (Li
     pub fewer_checked_left : IfErr outcome (λ fault. (fault ≡ Write) × AppendsPrefix old new nth_refusal) → IfErr outcome (LeavesAtFault (IsCheckOfNth (Some number) traces certs) old new)
     fewer_checked_left = fewer_left Refused (IsCheckedBy certs) (checked_of_first certs) number traces reads old new outcome
 
--- a piece that is refused is so by what was kept of it
+-- a trace text that is refused is so by what was kept of it
 pub unread_by_kept : {P : Type 0} (number : ℕ) (traces : Option (List ℕ)) (kept : List ℕ) → ReadsAs traces (λ stream. IsKeptOfNth number stream (Some kept)) → (IsRefusedTrace kept → P) →
     IfSome traces (λ text. IsRefusedNth (Some number) text → P)
 unread_by_kept number None kept reads unread = tt
@@ -164,5 +161,5 @@ unread_by_kept {P} number (Some all) kept reads unread = λ refused.
     let pieces = of.1 in
     let others = refused.1 in
     let same : refused.0 ≡ Some trace.0 =
-    others.2 ∙ ap (λ (ps : List (List ℕ)). slice_get ps (number - 1)) (one_list_of_pieces all others.0 pieces.0 others.1 pieces.1) ∙ sym pieces.2 ∙ trace.1 in
+    others.2 ∙ ap (λ (ps : List (List ℕ)). slice_get ps (number - 1)) (one_list_of_trace_texts all others.0 pieces.0 others.1 pieces.1) ∙ sym pieces.2 ∙ trace.1 in
     unread (subst IsRefusedTrace (sym trace.2) (refused_first trace.0 (subst (λ piece. IfSome piece IsRefusedTrace) same refused.2)))

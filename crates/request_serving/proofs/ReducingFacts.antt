@@ -2,7 +2,7 @@
 use Rattle.std.proofs.Common.{ℕ, List, None, Some, Result, IfOk, IfErr, ◌≡◌}
 use Rattle.std.specs.Prelude.{Option}
 use Rattle.std.specs.Io.KnownBytes.{Appends}
-use Rattle.trace_streams.specs.NthPieces.{IsKeptOfNth}
+use Rattle.trace_streams.specs.NthTraceTexts.{IsKeptOfNth}
 use Rattle.text_streams.specs.declared.faults.Fault.{Fault}
 use Rattle.text_streams.specs.declared.faults.Fault.TheVariants.{Write}
 use Rattle.text_streams.specs.Streams.{AppendsPrefix}

@@ -3,7 +3,8 @@ use Rattle.std.specs.Prelude.{ℕ, List, Option}
 use Rattle.command_line.specs.declared.options.Presentation.{Presentation}
 use Rattle.trace_reports.specs.declared.answers.Answer.{Answer}
 use Rattle.trace_reports.specs.declared.answers.Answer.TheVariants.{Refused}
-use Rattle.trace_decisions.specs.DecisionTexts.{IsDecisionOf}
+use Rattle.trace_decisions.specs.DecisionTexts.{IsDecisionText}
+use Rattle.trace_reports.specs.Renderings.{IsTextOf}
 use Rattle.trace_decisions.specs.EvidenceReports.{IsVerification}
 use Rattle.text_streams.specs.Readings.{ReadsAs}
 use Rattle.request_texts.specs.NthTraces.{IsSaidOfNth}
@@ -12,7 +13,7 @@ use Rattle.request_serving.specs.Presentations.{decided_as, refused_as}
 -- the decision in this form, after at most so many steps, on the only trace of a reader's bytes, or on the one of this number
 abbrev pub IsDecided : Presentation → ℕ → Option ℕ → Option (List ℕ) → List ℕ → Answer → Type 0
 IsDecided presentation effort nth remaining text answer =
-    ReadsAs remaining (λ input. IsSaidOfNth Refused nth (IsDecisionOf (decided_as presentation) (refused_as presentation) effort) input text answer)
+    ReadsAs remaining (λ input. IsSaidOfNth Refused nth (IsTextOf (IsDecisionText (decided_as presentation) effort) Refused (refused_as presentation)) input text answer)
 
 -- the line on the evidence that a reader has about a trace
 abbrev pub IsVerifiedBy : Option (List ℕ) → List ℕ → List ℕ → Answer → Type 0

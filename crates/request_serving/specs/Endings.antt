@@ -24,7 +24,7 @@ use Rattle.request_serving.specs.Deciding.{IsDecided, IsVerificationOfNth}
 use Rattle.run_serving.specs.MadePrograms.{IsMadeText, LeavesMadeText}
 use Rattle.request_texts.specs.NthTraces.{IsSaidOfNth}
 use Rattle.request_texts.specs.OpenedFiles.{text_bytes}
-use Rattle.request_serving.specs.Presentations.{refused_as, said_as}
+use Rattle.request_serving.specs.Presentations.{log_refused_as, logged_as, refused_as, said_as}
 use Rattle.request_serving.specs.Reducing.{IsReduced}
 use Rattle.run_serving.specs.Replaying.{IsReplayText}
 use Rattle.run_serving.specs.Running.{IsRunText, IsRunTimesText, LeavesRunTimes}
@@ -93,8 +93,8 @@ abbrev pub EndsByText : (List ℕ → ℕ → Type 0) → (Option (List ℕ) →
 EndsByText is_text leaves o status = Ends is_text (λ said. said) leaves o status
 
 -- the verdict on a trace in this form: on the only one of a reader's bytes, or on the one of this number
-abbrev pub IsPresented : Presentation → Option ℕ → Option (List ℕ) → List ℕ → Verdict → Type 0
-IsPresented presentation nth remaining text verdict = ReadsAs remaining (λ input. IsSaidOfNth Refused nth (IsTextOfInput (said_as presentation) (refused_as presentation)) input text verdict)
+abbrev pub IsVerdictAsAsked : Presentation → Option ℕ → Option (List ℕ) → List ℕ → Verdict → Type 0
+IsVerdictAsAsked presentation nth remaining text verdict = ReadsAs remaining (λ input. IsSaidOfNth Refused nth (IsTextOfInput (said_as presentation) (refused_as presentation)) input text verdict)
 
 -- the report of the certificate that a reader has on a trace
 abbrev pub IsCheckedBy : Option (List ℕ) → List ℕ → List ℕ → Verdict → Type 0
@@ -127,18 +127,22 @@ EndsWithNotes {X} is_text status_by o status =
     ((said : X) × WritesWhole is_text o.written_before o.written said × ((notes : List ℕ) × AppendsPrefix o.errors_before o.errors notes) × (status ≡ status_by said))
     ⊎ ((fault : Fault) × LeavesAtFault is_text o.written_before o.written fault × EndsByFault fault o status)
 
--- the report on the log that a reader's bytes spell, or its refusal
+-- what is said of the log that a reader's bytes spell, or of its refusal, in the form that the options name
+abbrev pub IsLogged : LogOptions → Option (List ℕ) → List ℕ → Answer → Type 0
+IsLogged options remaining text answer = IsLogReportOfReader (logged_as options.form) (log_refused_as options.form) options remaining text answer
+
+-- that text, and beside it notes
 abbrev pub EndsLogged : LogOptions → Option (List ℕ) → Outputs → ℕ → Type 0
-EndsLogged options remaining o status = EndsWithNotes (IsLogReportOfReader options remaining) status_of_answer o status
+EndsLogged options remaining o status = EndsWithNotes (IsLogged options remaining) status_of_answer o status
 
 -- The line that a run gave no record was written to the errors.
-abbrev pub TellsUnrecorded : Outputs → Type 0
-TellsUnrecorded o =
+abbrev pub WritesUnrecorded : Outputs → Type 0
+WritesUnrecorded o =
     ((p : ℕ) × AppendsPrefix o.errors_before o.errors (fault_line (codes "Torn " ++ decimal p))) ⊎ AppendsPrefix o.errors_before o.errors (fault_line (codes "OtherProgram"))
 
 -- A run gave no record: the output is as it was, the line of the fault was written to the errors, and the status is 4.
 abbrev pub EndsUnrecorded : Outputs → ℕ → Type 0
-EndsUnrecorded o status = Keeps o.written_before o.written × (status ≡ 4) × TellsUnrecorded o
+EndsUnrecorded o status = Keeps o.written_before o.written × (status ≡ 4) × WritesUnrecorded o
 
 -- what is printed of a run, where a reader has these bytes of the program, or that it gave no record
 abbrev pub EndsRun : RunOptions → Option (List ℕ) → Outputs → ℕ → Type 0
@@ -149,7 +153,7 @@ EndsRun options programs o status = EndsByText (IsRunText options programs) (Lea
 abbrev pub EndsRunTimes : UnitOptions → ℕ → Option (List ℕ) → Outputs → ℕ → Type 0
 EndsRunTimes options times programs o status =
     EndsByText (IsRunTimesText options times programs) (λ old new fault. LeavesRunTimes options times programs old new) o status
-    ⊎ (LeavesRunTimes options times programs o.written_before o.written × (status ≡ 4) × TellsUnrecorded o)
+    ⊎ (LeavesRunTimes options times programs o.written_before o.written × (status ≡ 4) × WritesUnrecorded o)
 
 -- The output grows by the text and the errors by nothing, and the status is 0; or the fault Write left a prefix of the text.
 abbrev pub EndsShowing : List ℕ → Outputs → ℕ → Type 0
@@ -169,7 +173,7 @@ EndsOutOfMemory o status = Keeps o.written_before o.written × EndsByFault OutOf
 
 -- what was asked for was done, where standard input has these bytes, and the file of each name those
 abbrev pub EndsAsAsked : Asked → Option (List ℕ) → (List ℕ → Option (List ℕ)) → Outputs → ℕ → Type 0
-EndsAsAsked (judging presentation file workers nth) input files o status = EndsByReport (IsPresented presentation nth (text_bytes file input files)) o status
+EndsAsAsked (judging presentation file workers nth) input files o status = EndsByReport (IsVerdictAsAsked presentation nth (text_bytes file input files)) o status
 EndsAsAsked (deciding presentation file workers nth effort) input files o status =
     let is_text = IsDecided presentation effort nth (text_bytes file input files) in Ends is_text status_of_answer (LeavesAtFault is_text) o status
 EndsAsAsked (reducing file nth) input files o status = EndsWithNotes (IsReduced nth (text_bytes file input files)) status_of o status

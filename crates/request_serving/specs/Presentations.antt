@@ -1,29 +1,49 @@
--- What is said of a trace, by a verdict or a decision on it, and of an input that is refused, in the form that was asked for.
+-- What is said of a trace, by a verdict or a decision on it, of a log, and of an input that is refused, in the form that was asked for.
+use Rattle.std.specs.Prelude.{ℕ, List}
+use Rattle.tso_ops.specs.Values.{TraceValue}
 use Rattle.command_line.specs.declared.options.Presentation.{Presentation}
 use Rattle.command_line.specs.declared.options.Presentation.TheVariants.{Report, Explanation, Picture, FieldPicture}
-use Rattle.trace_reports.specs.Renderings.{SaidOfRefusal, SaidOfTrace}
+use Rattle.trace_reports.specs.declared.findings.Finding.{Finding}
+use Rattle.trace_reports.specs.Renderings.{RendersRefusal}
 use Rattle.trace_reports.specs.Reports.{refusal_shown, reported}
 use Rattle.trace_explanation.specs.Explained.{explained, refusal_explained}
 use Rattle.trace_pictures.specs.Pictured.{field_pictured, pictured}
-use Rattle.trace_decisions.specs.DecisionTexts.{SaidOfDecision, decision_text}
+use Rattle.trace_decisions.specs.declared.decisions.Decision.{Decision}
+use Rattle.trace_decisions.specs.DecisionTexts.{decision_text}
 use Rattle.decision_explanation.specs.Explained.{decision_explained}
 use Rattle.decision_pictures.specs.Pictured.{decision_pictured}
+use Rattle.request_options.specs.declared.logs.LogForm.{LogForm}
+use Rattle.request_options.specs.declared.logs.LogForm.TheVariants as forms
+use Rattle.log_reports.specs.LogReports.{SaidOfLog}
+use Rattle.log_reports.specs.LogRefusals.{log_refusal_explained}
+use Rattle.log_reports.specs.LogTexts.{log_explained, log_lines, log_traces}
 
-abbrev pub said_as : Presentation → SaidOfTrace
+abbrev pub said_as : Presentation → TraceValue → Finding → List ℕ
 said_as Report = reported
 said_as Explanation = explained
 said_as Picture = pictured
 said_as FieldPicture = field_pictured
 
 -- no decision is asked for with the names of the field: its picture would be the same
-abbrev pub decided_as : Presentation → SaidOfDecision
+abbrev pub decided_as : Presentation → TraceValue → Decision → List ℕ
 decided_as Report = decision_text
 decided_as Explanation = decision_explained
 decided_as Picture = decision_pictured
 decided_as FieldPicture = decision_pictured
 
-abbrev pub refused_as : Presentation → SaidOfRefusal
+abbrev pub refused_as : Presentation → RendersRefusal
 refused_as Report = refusal_shown
 refused_as Explanation = refusal_explained
 refused_as Picture = refusal_shown
 refused_as FieldPicture = refusal_shown
+
+abbrev pub logged_as : LogForm → SaidOfLog
+logged_as forms.Lines = log_lines
+logged_as forms.Explained = log_explained
+logged_as forms.Traces = log_traces
+
+-- the refusal of a log is explained where its violations would be
+abbrev pub log_refused_as : LogForm → RendersRefusal
+log_refused_as forms.Lines = refusal_shown
+log_refused_as forms.Explained = log_refusal_explained
+log_refused_as forms.Traces = refusal_shown

@@ -15,7 +15,7 @@ ghost use Rattle.request_texts.specs.OpenedFiles.{HasRefusedFirstText, OpensFirs
 use crate::endings::end_by;
 use crate::serving::{refuse, serve};
 use command_line::read_arguments;
-use request_texts::{Diagnostics, Surroundings, SystemFiles};
+use request_texts::{Diagnostics, Environment, SystemFiles};
 use std::io;
 use std::io::{Read, Write};
 use std::rt::{Clock, Files};
@@ -91,7 +91,7 @@ fn subcommand_of(arguments: &[String]) -> &str {
 /// Does the same over these files, which need not be the system's.
 pub fn drive_over<
     H: Threads + Wait + Sync + AllocGlobal,
-    O: Surroundings,
+    O: Environment,
     R: Read,
     W: Write,
     E: Write,

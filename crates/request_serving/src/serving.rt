@@ -18,7 +18,7 @@ use crate::serving::logging::log_named;
 use crate::serving::reducing::reduce_named;
 use crate::serving::verifying::verify_named;
 use command_line::Request;
-use request_texts::{SHAPE_LIMITS, Surroundings};
+use request_texts::{Environment, SHAPE_LIMITS};
 use run_serving::{campaign_by, limits_of, make, repeat_named, replay_named, run_named};
 use std::io::{Read, Write};
 use std::sync::Wait;
@@ -39,7 +39,7 @@ mod reducing;
 mod verifying;
 
 /// The command line lets just those numbers of workers through that a trace is judged with.
-const _: () = prove!(command_line::MAX_WORKERS == MAX_WORKERS);
+const _: () = prove!(command_line::MAX_REQUESTED_WORKERS == MAX_WORKERS);
 
 /// Does what a request asks for, and answers the status that the program ends with.
 ///
@@ -64,7 +64,7 @@ const _: () = prove!(command_line::MAX_WORKERS == MAX_WORKERS);
 /// `errors`; a file that can't be opened is the fault Read. All files that the request names are opened, in their order,
 /// before one is read; but those of `Batch` each when its turn comes, and where one can't be opened it judges the others, says so,
 /// and has the same status and last line.
-pub fn serve<H: Threads + Wait + Sync + AllocGlobal, O: Surroundings, R: Read, W: Write, E: Write>(
+pub fn serve<H: Threads + Wait + Sync + AllocGlobal, O: Environment, R: Read, W: Write, E: Write>(
     rt: &H,
     request: &Request<'_>,
     files: &mut O,

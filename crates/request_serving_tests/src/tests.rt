@@ -13,7 +13,7 @@ use command_line::Notes;
 use evidence_for_tests::{BUFFERING, BUFFERING_ORDER, TWELVE_EVENTS, TWELVE_REFUTED};
 use progress_meters::NoMeter;
 use request_serving::drive_over;
-use request_texts::Surroundings;
+use request_texts::Environment;
 use std::alloc::{AllocError, Global};
 use std::io;
 use std::io::{Error, ErrorKind, Read, Write};
@@ -75,7 +75,7 @@ struct MemoryFiles {
     opened: String,
 }
 
-impl Surroundings for MemoryFiles {
+impl Environment for MemoryFiles {
     type File = Input;
 
     type Meter = NoMeter;

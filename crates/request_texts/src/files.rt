@@ -15,7 +15,7 @@ use text_streams::Fault;
 ///
 /// Contracts know what a file has, and which were opened, where the implementation says it; of the system's files it
 /// can say neither.
-pub trait Surroundings {
+pub trait Environment {
     ghost use Rattle.std.specs.Prelude.{◌≡◌, ℕ, List, [], ◌∷◌, Option, None, IfOk};
     ghost use Rattle.request_texts.specs.OpenedFiles.{HasKnown, OpensNext};
 
@@ -64,7 +64,7 @@ impl<'h, H: Files> SystemFiles<'h, H> {
     }
 }
 
-impl<'h, H: Files + Eprint + Clock + AllocGlobal> Surroundings for SystemFiles<'h, H> {
+impl<'h, H: Files + Eprint + Clock + AllocGlobal> Environment for SystemFiles<'h, H> {
     type File = WatchedReader<'h, H::File, H>;
 
     type Meter = &'h Diagnostics<'h, H>;
@@ -98,7 +98,7 @@ impl<'h, H: Files + Eprint + Clock + AllocGlobal> Surroundings for SystemFiles<'
 }
 
 /// A file, to be read. One that can't be opened is the fault Read.
-pub fn open<O: Surroundings>(files: &mut O, name: &str) -> Result<O::File, Fault>
+pub fn open<O: Environment>(files: &mut O, name: &str) -> Result<O::File, Fault>
     ensures known { IfOk result (λ file. HasKnown (O.bytes files.old name.now) (O.File.remaining file)) }
     ensures fault { IfErr result (λ fault. fault ≡ Fault.Read) }
     ensures opened { OpensNext (O.opened files.old) (O.opened files.new) (name.now ∷ []) }

@@ -1,11 +1,11 @@
 //! The texts of a request: files that are opened by their names, standard input, and what is told of both on standard error.
 //!
-//! `Surroundings` is what is around a program, `SystemFiles` that of the system, whose failures `Diagnostics` tells. `README.md` says
+//! `Environment` is what is around a program, `SystemFiles` that of the system, whose failures `Diagnostics` tells. `README.md` says
 //! what is proved.
 #![tactic(auto)]
 
 pub use diagnostics::{Diagnostics, WatchedReader};
-pub use files::{Surroundings, SystemFiles, open};
+pub use files::{Environment, SystemFiles, open};
 pub use hints::{SEEDS_LIMITS, SHAPE_LIMITS};
 
 mod diagnostics;

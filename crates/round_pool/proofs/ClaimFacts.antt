@@ -13,20 +13,20 @@ use Rattle.atomic_table.proofs.Lists.{at_set, at_snoc, set_again, set_here}
 use Rattle.round_pool.specs.declared.claims.seat_view.SeatView.{SeatView}
 use Rattle.round_pool.specs.declared.claims.types.Claims.{Claims}
 use Rattle.round_pool.specs.declared.claims.types.Claimant.{Claimant}
-use Rattle.round_pool.specs.Claims.{rows_of, places_of, held, IsOf, NoneTwice, HasAll}
-use Rattle.round_pool.specs.ClaimCounts.{times}
+use Rattle.round_pool.specs.Claims.{rows_to_claim, places_of, held, IsOf, NoneTwice, HasAll}
+use Rattle.round_pool.specs.ClaimCounts.{times_listed}
 use Rattle.round_pool.specs.Internal.ClaimTable.{standing, seat_view, first_view, KeepsClaims, IsKnown, tries, looks, kept_view, new_view, joined_view, spent_view}
 
 -- ---- how often a place stands in a list
 
-pub times-push : (p : ℕ) (places : List ℕ) (q : ℕ) → times p (places ++ q ∷ []) ≡ times p places + cond (eqb q p) 1 0
+pub times-push : (p : ℕ) (places : List ℕ) (q : ℕ) → times_listed p (places ++ q ∷ []) ≡ times_listed p places + cond (eqb q p) 1 0
 times-push p places q = sum_by_push (λ x. cond (eqb x p) 1 0) places q
 
-pub times-push_same : (p : ℕ) (places : List ℕ) → times p (places ++ p ∷ []) ≡ times p places + 1
-times-push_same p places = times-push p places p ∙ ap (λ b. times p places + cond b 1 0) (eq-eqb p p refl)
+pub times-push_same : (p : ℕ) (places : List ℕ) → times_listed p (places ++ p ∷ []) ≡ times_listed p places + 1
+times-push_same p places = times-push p places p ∙ ap (λ b. times_listed p places + cond b 1 0) (eq-eqb p p refl)
 
-pub times-push_other : (p : ℕ) (places : List ℕ) (q : ℕ) → q ≢ p → times p (places ++ q ∷ []) ≡ times p places
-times-push_other p places q apart = times-push p places q ∙ (ap (λ b. times p places + cond b 1 0) (ne_eqb q p apart) ∙ omega arith)
+pub times-push_other : (p : ℕ) (places : List ℕ) (q : ℕ) → q ≢ p → times_listed p (places ++ q ∷ []) ≡ times_listed p places
+times-push_other p places q apart = times-push p places q ∙ (ap (λ b. times_listed p places + cond b 1 0) (ne_eqb q p apart) ∙ omega arith)
 
 -- ---- the views
 
@@ -65,14 +65,14 @@ St = State (Unit {0}) SeatView
 gained : (p t : ℕ) (views : List SeatView) (i : ℕ) (v : SeatView) (tried : ℕ) → get_elem? views i ≡ some v →
     standing p (set views i (seat_view (v.places ++ t ∷ []) tried v.parts)) ≡ standing p views + cond (eqb t p) 1 0
 gained p t views i v tried at =
-    let moved = sum_changed (λ u. times p u.places) views i v (seat_view (v.places ++ t ∷ []) tried v.parts) at in
+    let moved = sum_changed (λ u. times_listed p u.places) views i v (seat_view (v.places ++ t ∷ []) tried v.parts) at in
     omega (arith, moved, times-push p v.places t)
 
 -- how often a place stands once one seat has the same places
 unmoved : (p : ℕ) (views : List SeatView) (i : ℕ) (v w : SeatView) → get_elem? views i ≡ some v → w.places ≡ v.places → standing p (set views i w) ≡ standing p views
 unmoved p views i v w at same =
-    let moved = sum_changed (λ u. times p u.places) views i v w at in
-    omega (arith, moved, ap (times p) same)
+    let moved = sum_changed (λ u. times_listed p u.places) views i v w at in
+    omega (arith, moved, ap (times_listed p) same)
 
 -- no place stands twice in a view; with all parts it has all that was tried
 only_one : (f g : SeatView → ℕ) (views : List SeatView) → sum_by g views ≡ 0 → ((j : ℕ) (u : SeatView) → get_elem? views j ≡ some u → g u ≡ 0 → f u ≡ 0) → sum_by f views ≡ 0
@@ -101,9 +101,9 @@ whole_sum f g (x ∷ views) (suc i) v at all idle =
 
 pub known : (places : ℕ) (s : St) (i : ℕ) (v : SeatView) → KeepsClaims places s → get_elem? s.views i ≡ some v → IsKnown v
 known places s i v rule at = (
-  λ p. (let one = part_of_sum (λ u. times p u.places) s.views i v at in let all = rule.once p in omega (arith, one, all)),
+  λ p. (let one = part_of_sum (λ u. times_listed p u.places) s.views i v at in let all = rule.once p in omega (arith, one, all)),
   λ parts p low.
-      sym (whole_sum (λ u. times p u.places) (λ u. u.parts) s.views i v at (rule.total ∙ sym parts) (λ j u there none. ap (times p) (rule.idle j u there none))) ∙ rule.tried i v at p low,
+      sym (whole_sum (λ u. times_listed p u.places) (λ u. u.parts) s.views i v at (rule.total ∙ sym parts) (λ j u there none. ap (times_listed p) (rule.idle j u there none))) ∙ rule.tried i v at p low,
 )
 
 -- the rule once a seat tried its next place, which nobody had
@@ -208,7 +208,7 @@ pub splits : (n i : ℕ) (v : SeatView) → 1 < v.parts → Splits (KeepsClaims 
 splits n i v most s rule at =
     let views : List SeatView = set s.views i (kept_view v) ++ new_view ∷ [] in
     let same : (p : ℕ) → standing p views ≡ standing p s.views = λ p.
-    (let moved = unmoved p s.views i v (kept_view v) at refl in let last = sum_by_push (λ u. times p u.places) (set s.views i (kept_view v)) new_view in omega (arith, moved, last)) in
+    (let moved = unmoved p s.views i v (kept_view v) at refl in let last = sum_by_push (λ u. times_listed p u.places) (set s.views i (kept_view v)) new_view in omega (arith, moved, last)) in
     let each : (P : SeatView → Type 0) → P (kept_view v) → P new_view → ((j : ℕ) (u : SeatView) → get_elem? s.views j ≡ some u → P u) → (j : ℕ) (u : SeatView) → get_elem? views j ≡ some u → P u = λ P left right before j u there. ⊎_elim
     (λ (old : get_elem? (set s.views i (kept_view v)) j ≡ some u). after_change (λ _ x. P x) s.views i (kept_view v) left before j u old)
     (λ (new : new_view ≡ u). subst P new right)
@@ -230,8 +230,8 @@ joins n i v j w some_part s rule at apart there =
     let both = joined_view v w in
     let mid : List SeatView = set s.views i both in
     let same : (p : ℕ) → standing p (set mid j spent_view) ≡ standing p s.views = λ p.
-    (let one = sum_changed (λ u. times p u.places) s.views i v both at in
-    let two = sum_changed (λ u. times p u.places) mid j w spent_view there in
+    (let one = sum_changed (λ u. times_listed p u.places) s.views i v both at in
+    let two = sum_changed (λ u. times_listed p u.places) mid j w spent_view there in
     omega (arith, one, two, sum_by-append (λ x. cond (eqb x p) 1 0) v.places w.places)) in
     let each : (P : SeatView → Type 0) → P both → P spent_view → ((k : ℕ) (u : SeatView) → get_elem? s.views k ≡ some u → P u) → (k : ℕ) (u : SeatView) → get_elem? (set mid j spent_view) k ≡ some u → P u = λ P joined spent before.
     after_change (λ _ x. P x) mid j spent_view spent (after_change (λ _ x. P x) s.views i both joined before) in
@@ -270,7 +270,7 @@ starts n = record {
 -- ---- the rows of places
 
 -- a place that stands once stands at one index
-pub distinct_places : (places : List ℕ) → ((p : ℕ) → times p places ≤ 1) → AllPairs (λ x y. x ≢ y) places
+pub distinct_places : (places : List ℕ) → ((p : ℕ) → times_listed p places ≤ 1) → AllPairs (λ x y. x ≢ y) places
 distinct_places [] once i j d low inside = absurd (omega (arith, inside))
 distinct_places (x ∷ places) once i zero d low inside = absurd (omega (arith, low))
 distinct_places (x ∷ places) once zero (suc j) d low inside = λ same.
@@ -290,7 +290,7 @@ rows_apart rows p q ascending near far apart same = ⊎_elim
     (cases_lt p q)
 
 -- so no row stands twice among the rows of places that stand once
-pub distinct_rows : (rows places : List ℕ) → AllPairs (λ x y. x < y) rows → All (λ p. p < length rows) places → ((p : ℕ) → times p places ≤ 1) → AllPairs (λ x y. x ≢ y) (map (λ p. get_or rows p 0) places)
+pub distinct_rows : (rows places : List ℕ) → AllPairs (λ x y. x < y) rows → All (λ p. p < length rows) places → ((p : ℕ) → times_listed p places ≤ 1) → AllPairs (λ x y. x ≢ y) (map (λ p. get_or rows p 0) places)
 distinct_rows rows places ascending within once i j d low inside =
     let size : length (map (λ p. get_or rows p 0) places) ≡ length places = length-map places (λ p. get_or rows p 0) in
     let j_in : j < length places = omega (arith, inside, size) in
@@ -300,7 +300,7 @@ distinct_rows rows places ascending within once i j d low inside =
 
 -- what a claimant knows, of the rows
 pub none_twice : (claims : Claims) (claimant : Claimant) → IsOf claims claimant → NoneTwice (held claims claimant)
-none_twice claims claimant own = distinct_rows (rows_of claims) (places_of claimant) claims.ascending own.places claimant.known.0
+none_twice claims claimant own = distinct_rows (rows_to_claim claims) (places_of claimant) claims.ascending own.places claimant.known.0
 
 pub has_all : (claims : Claims) (claimant : Claimant) → HasAll claims claimant
 has_all claims claimant = λ parts all place inside. claimant.known.1 parts place (let tries = claimant.tries in omega (arith, all, inside, tries))

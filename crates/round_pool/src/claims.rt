@@ -1,7 +1,7 @@
 //! Rows that workers claim, each at most once.
 ghost use Rattle.std.specs.Prelude.{◌≡◌, ℕ, ◌+◌, ◌-◌, ◌<◌, ◌≤◌, ◌++◌, [], ◌∷◌, true, false, length, get_or, sum_by, All, AllPairs, IfOk, IfSome, IfNone};
 ghost use Rattle.round_pool.specs.ClaimCounts.{all_parts};
-ghost use Rattle.round_pool.specs.Claims.{rows_of, places_of, tried_by, claimant_parts, held, IsOf, IsFresh, NoneTwice, HasAll};
+ghost use Rattle.round_pool.specs.Claims.{rows_to_claim, places_of, tried_by, claimant_parts, held, IsOf, IsFresh, NoneTwice, HasAll};
 
 use atomic_table::Table;
 use std::alloc::Global;
@@ -25,7 +25,7 @@ impl Claims {
         requires ascending { AllPairs (λ x y. x < y) rows.items }
         requires some { 1 ≤ seats }
         requires most { seats ≤ all_parts }
-        ensures rows { IfOk result (λ made. rows_of made.0 ≡ rows.items) }
+        ensures rows { IfOk result (λ made. rows_to_claim made.0 ≡ rows.items) }
         ensures seats { IfOk result (λ made. length made.1.items ≡ seats) }
         ensures fresh { IfOk result (λ made. All (IsFresh made.0) made.1.items) }
         ensures parts { IfOk result (λ made. sum_by claimant_parts made.1.items ≡ all_parts) }
@@ -82,8 +82,8 @@ impl Claims {
         ensures own { IsOf self.now claimant.new }
         ensures parts { claimant_parts claimant.new ≡ claimant_parts claimant.old }
         ensures held { IfSome result (λ row. held self.now claimant.new ≡ held self.now claimant.old ++ row ∷ []) }
-        ensures some { IfSome result (λ row. (tried_by claimant.old < tried_by claimant.new) × (places_of claimant.new ≡ places_of claimant.old ++ (tried_by claimant.new - 1) ∷ []) × (row ≡ get_or (rows_of self.now) (tried_by claimant.new - 1) 0)) }
-        ensures none { IfNone result ((tried_by claimant.new ≡ length (rows_of self.now)) × (places_of claimant.new ≡ places_of claimant.old)) }
+        ensures some { IfSome result (λ row. (tried_by claimant.old < tried_by claimant.new) × (places_of claimant.new ≡ places_of claimant.old ++ (tried_by claimant.new - 1) ∷ []) × (row ≡ get_or (rows_to_claim self.now) (tried_by claimant.new - 1) 0)) }
+        ensures none { IfNone result ((tried_by claimant.new ≡ length (rows_to_claim self.now)) × (places_of claimant.new ≡ places_of claimant.old)) }
         ensures once { NoneTwice (held self.now claimant.new) }
         ensures all { HasAll self.now claimant.new }
     {
@@ -99,7 +99,7 @@ impl Claims {
     /// Tries the claimant's next place, and says whether it has claimed it.
     fn try_next(&self, claimant: &mut Claimant) -> bool
         requires own { IsOf self.now claimant.old }
-        requires some { tried_by claimant.old < length (rows_of self.now) }
+        requires some { tried_by claimant.old < length (rows_to_claim self.now) }
         ensures own { IsOf self.now claimant.new }
         ensures parts { claimant_parts claimant.new ≡ claimant_parts claimant.old }
         ensures tried { tried_by claimant.new ≡ tried_by claimant.old + 1 }

@@ -13,7 +13,7 @@ use Rattle.trace_reports.specs.RefusalLines.{refusal_text}
 use Rattle.tso_text.specs.declared.faults.Why.{Why}
 use Rattle.tso_text.specs.Refusals.{IsProgramRefusal}
 use Rattle.tso_text.proofs.TextLaws.{program_laws}
-use Rattle.run_serving.specs.Running.{AreRunTraces, IsRunTimesText, IsRunTrace, LeavesRunTimes}
+use Rattle.run_serving.specs.Running.{AreRunTraces, IsRunTimesText, IsTraceTextOfRun, LeavesRunTimes}
 use Rattle.run_serving.proofs.ReplayingFacts.{printed_as}
 
 -- the traces of so many runs were written
@@ -30,12 +30,12 @@ module _ (unit : UnitOptions) (program : ProgramValue) where
 
   module _ (done : ℕ) (old mid new : Option (List ℕ)) (have : HaveRun unit program done old mid) where
     -- the runs so far, and then one
-    with_one : (text : List ℕ) → IsRunTrace unit program text → AreRunTraces unit program (done + 1) (have.0 ++ text)
+    with_one : (text : List ℕ) → IsTraceTextOfRun unit program text → AreRunTraces unit program (done + 1) (have.0 ++ text)
     with_one text is =
         let next : suc done ≡ done + 1 = omega arith in
         subst (λ n. AreRunTraces unit program n (have.0 ++ text)) next (have.0, text, have.1, is, refl)
 
-    pub one_run : (text written : List ℕ) → IsRunTrace unit program text → written ≡ text → Appends mid new written → HaveRun unit program (done + 1) old new
+    pub one_run : (text written : List ℕ) → IsTraceTextOfRun unit program text → written ≡ text → Appends mid new written → HaveRun unit program (done + 1) old new
     one_run text written is same appends =
         (have.0 ++ text, with_one text is, Appends-trans old mid new have.0 text have.2 (subst (λ bytes. Appends mid new bytes) same appends))
 
@@ -43,7 +43,7 @@ module _ (unit : UnitOptions) (program : ProgramValue) where
     pub left_before : (times : ℕ) → done ≤ times → LeavesRuns unit program times old mid
     left_before times few = (done, few, have.0, have.1, whole_written old mid have.0 have.2)
 
-    pub left_within : (times : ℕ) (text written : List ℕ) → done + 1 ≤ times → IsRunTrace unit program text → written ≡ text → AppendsPrefix mid new written → LeavesRuns unit program times old new
+    pub left_within : (times : ℕ) (text written : List ℕ) → done + 1 ≤ times → IsTraceTextOfRun unit program text → written ≡ text → AppendsPrefix mid new written → LeavesRuns unit program times old new
     left_within times text written few is same prefix =
         (done + 1, few, have.0 ++ text, with_one text is, prefix_after old mid new have.0 text have.2 (subst (λ bytes. AppendsPrefix mid new bytes) same prefix))
 

@@ -30,12 +30,12 @@ unit_of options = new_unit (design_of_kind options.kind options.capacity options
 
 -- Its trace, with the status of a text that was asked for; or the report of its trace, and the account; or the explanation of its trace. The verdict is no
 -- violation where the record is lawful.
-abbrev pub Presents : Printing → RecordedValue → Account → List ℕ → ℕ → Type 0
-Presents Trace recorded account text status = (text ≡ trace_text recorded.trace) × (status ≡ 0)
-Presents Report recorded account text status =
+abbrev pub IsRenderedRecord : Printing → RecordedValue → Account → List ℕ → ℕ → Type 0
+IsRenderedRecord Trace recorded account text status = (text ≡ trace_text recorded.trace) × (status ≡ 0)
+IsRenderedRecord Report recorded account text status =
     (report : List ℕ) × (verdict : Verdict) × IsTraceReport recorded.trace report verdict × (recorded.lawful ≡ true → verdict ≡ NoViolation) × (text ≡ report ++ account_text account)
     × (status ≡ status_of verdict)
-Presents Explanation recorded account text status =
+IsRenderedRecord Explanation recorded account text status =
     (verdict : Verdict) × IsTraceExplanation recorded.trace text verdict × (recorded.lawful ≡ true → verdict ≡ NoViolation) × (status ≡ status_of verdict)
 
 -- the trace that follows, where it is asked for and isn't what is printed anyway
@@ -45,7 +45,7 @@ following_trace options trace = if options.with_trace && not (prints_trace optio
 -- what the options ask for, and the trace that follows
 pub record PrintsRecord (options : RunOptions) (recorded : RecordedValue) (account : Account) (text : List ℕ) (status : ℕ) : Type 0 where
   pub presented : List ℕ
-  pub presents : Presents options.printing recorded account presented status
+  pub presents : IsRenderedRecord options.printing recorded account presented status
   pub whole : text ≡ presented ++ following_trace options recorded.trace
 
 -- ---- what is printed of texts

@@ -6,13 +6,13 @@ use Rattle.command_line.specs.declared.options.RunOptions.{RunOptions}
 use Rattle.command_line.specs.declared.options.UnitOptions.{UnitOptions}
 use Rattle.trace_judging.specs.Limits.{HasWorkerRange}
 
-abbrev pub IsInRange : UnitOptions → Type 0
-IsInRange unit = (1 ≤ unit.capacity) × (unit.capacity ≤ capacity_limit) × (1 ≤ unit.trigger)
+abbrev pub IsUnitInRange : UnitOptions → Type 0
+IsUnitInRange unit = (1 ≤ unit.capacity) × (unit.capacity ≤ capacity_limit) × (1 ≤ unit.trigger)
 
 -- the options of a replay or a run
 abbrev pub AreInRange : RunOptions → Type 0
-AreInRange options = HasWorkerRange options.workers × IsInRange options.unit
+AreInRange options = HasWorkerRange options.workers × IsUnitInRange options.unit
 
 -- the options of a campaign
 abbrev pub IsCampaignInRange : CampaignOptions → Type 0
-IsCampaignInRange options = HasWorkerRange options.workers × IsInRange options.unit
+IsCampaignInRange options = HasWorkerRange options.workers × IsUnitInRange options.unit

@@ -28,7 +28,7 @@ IsRunText options programs text status = ReadsAs programs (λ bytes. IsPrintedOf
 -- ---- more runs than one
 
 -- The text is the trace of a run of this program, on a unit as the options say.
-pub record IsRunTrace (options : UnitOptions) (program : ProgramValue) (text : List ℕ) : Type 0 where
+pub record IsTraceTextOfRun (options : UnitOptions) (program : ProgramValue) (text : List ℕ) : Type 0 where
   pub recorded : RecordedValue
   pub account : Account
   pub runs : Runs program (unit_of options) account (Ok recorded)
@@ -38,7 +38,7 @@ pub record IsRunTrace (options : UnitOptions) (program : ProgramValue) (text : L
 abbrev pub AreRunTraces : UnitOptions → ProgramValue → ℕ → List ℕ → Type 0
 AreRunTraces options program zero text = text ≡ []
 AreRunTraces options program (suc times) text =
-    (before : List ℕ) × (last : List ℕ) × AreRunTraces options program times before × IsRunTrace options program last × (text ≡ before ++ last)
+    (before : List ℕ) × (last : List ℕ) × AreRunTraces options program times before × IsTraceTextOfRun options program last × (text ≡ before ++ last)
 
 -- What is printed of so many runs of the program of a reader's bytes, and the status then.
 abbrev pub IsRunTimesText : UnitOptions → ℕ → Option (List ℕ) → List ℕ → ℕ → Type 0

@@ -8,7 +8,7 @@ ghost use Rattle.command_line.specs.declared.options.Printing.TheVariants.{Expla
 ghost use Rattle.unit_core.specs.declared.accounts.Account.{Account as AccountValue};
 ghost use Rattle.trace_judging.specs.Limits.{HasWorkerRange};
 ghost use Rattle.command_line.specs.Requests.{prints_trace};
-ghost use Rattle.run_serving.specs.Printing.{Presents, PrintsRecord, following_trace};
+ghost use Rattle.run_serving.specs.Printing.{IsRenderedRecord, PrintsRecord, following_trace};
 
 use command_line::{Printing, RunOptions};
 use std::alloc::Global;
@@ -16,7 +16,7 @@ use std::sync::Wait;
 use std::thread::Threads;
 use text_streams::Fault;
 use trace_explanation::AsExplanation;
-use trace_judging::judge_trace;
+use trace_judging::{ByRules, answer_trace};
 use trace_reports::{DONE, REFUSED, render_refusal, status_of};
 use tso_ops::OutOfMemory;
 use tso_report::{print_account, report_of_record};
@@ -42,7 +42,7 @@ pub(crate) fn print_record<H: Threads + Wait + AllocGlobal>(
     ensures text { IfOk result (λ printed. PrintsRecord options.now recorded.now account.now printed.text.items printed.status) }
     ensures fault { IfErr result (λ fault. (fault ≡ Fault.OutOfMemory) ⊎ (fault ≡ Fault.NoThread)) }
 {
-    let Printed { mut text, status } = present_record(rt, options, recorded, account)?;
+    let Printed { mut text, status } = render_record(rt, options, recorded, account)?;
     text.extend_from_slice(&following_trace(rt.alloc(), options, recorded)?)?;
     Ok(Printed { text, status })
 }
@@ -80,14 +80,14 @@ fn prints_trace(printing: Printing) -> bool
 }
 
 /// What the options ask for of a record, without the trace that follows.
-fn present_record<H: Threads + Wait + AllocGlobal>(
+fn render_record<H: Threads + Wait + AllocGlobal>(
     rt: &H,
     options: &RunOptions,
     recorded: &Recorded,
     account: &Account,
 ) -> Result<Printed, Fault>
     requires workers { HasWorkerRange options.now.workers }
-    ensures text { IfOk result (λ printed. Presents options.now.printing recorded.now account.now printed.text.items printed.status) }
+    ensures text { IfOk result (λ printed. IsRenderedRecord options.now.printing recorded.now account.now printed.text.items printed.status) }
     ensures fault { IfErr result (λ fault. (fault ≡ Fault.OutOfMemory) ⊎ (fault ≡ Fault.NoThread)) }
 {
     match options.printing {
@@ -113,16 +113,13 @@ fn print_explanation<H: Threads + Wait + AllocGlobal>(
     recorded: &Recorded,
 ) -> Result<Printed, Fault>
     requires workers { HasWorkerRange options.now.workers }
-    ensures text { (account : AccountValue) → IfOk result (λ printed. Presents Explanation recorded.now account printed.text.items printed.status) }
+    ensures text { (account : AccountValue) → IfOk result (λ printed. IsRenderedRecord Explanation recorded.now account printed.text.items printed.status) }
     ensures fault { IfErr result (λ fault. (fault ≡ Fault.OutOfMemory) ⊎ (fault ≡ Fault.NoThread)) }
 {
-    let explained = judge_trace(
-        rt,
-        rt.alloc(),
-        recorded.trace(),
-        options.workers,
-        &AsExplanation,
-    )?;
+    let question = ByRules {
+        workers: options.workers,
+    };
+    let explained = answer_trace(rt, rt.alloc(), recorded.trace(), &question, &AsExplanation)?;
     Ok(Printed {
         status: status_of(explained.verdict),
         text: explained.text.into_bytes(),

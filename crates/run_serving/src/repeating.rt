@@ -6,17 +6,17 @@ ghost use Rattle.command_line.specs.declared.requests.Request.TheVariants.{RunTi
 ghost use Rattle.trace_streams.specs.Limits.{trace_read_limit};
 ghost use Rattle.text_streams.specs.Streams.{AppendsPrefix, LosesPrefix};
 ghost use Rattle.text_streams.specs.WrittenTexts.{WritesWhole};
-ghost use Rattle.run_serving.specs.Ranges.{IsInRange};
+ghost use Rattle.run_serving.specs.Ranges.{IsUnitInRange};
 ghost use Rattle.request_texts.specs.OpenedFiles.{OpensNext, files_named, name_in, text_bytes};
 ghost use Rattle.run_serving.specs.Printing.{unit_of};
-ghost use Rattle.run_serving.specs.Running.{AreRunTraces, IsRunTimesText, IsRunTrace, LeavesRunTimes};
+ghost use Rattle.run_serving.specs.Running.{AreRunTraces, IsRunTimesText, IsTraceTextOfRun, LeavesRunTimes};
 
 use crate::failures::RunFailure;
 use crate::printing::{print_refusal, recorded_text};
 use crate::running::{Drains, record_run};
 use crate::units::make_unit;
 use command_line::RunTimesRequest;
-use request_texts::{Surroundings, open};
+use request_texts::{Environment, open};
 use std::io::{Read, Write};
 use std::sync::Wait;
 use std::thread::Threads;
@@ -27,14 +27,14 @@ use tso_text::{MAX_TEXT_BYTES, read_program};
 use unit_core::{Account, MemoryUnit};
 
 /// Runs the program in a file, or else what the reader has, so many times, and writes the trace of each run: the status.
-pub fn repeat_named<H: Threads + Wait + Sync + AllocGlobal, O: Surroundings, R: Read, W: Write>(
+pub fn repeat_named<H: Threads + Wait + Sync + AllocGlobal, O: Environment, R: Read, W: Write>(
     rt: &H,
     request: &RunTimesRequest<'_>,
     files: &mut O,
     reader: &mut R,
     writer: &mut W,
 ) -> Result<u8, RunFailure>
-    requires unit { IsInRange request.now.unit }
+    requires unit { IsUnitInRange request.now.unit }
     requires turns { request.now.drain_turns ≤ drain_turns_limit }
     ensures whole { let programs = text_bytes (name_in request.now.program) (R.remaining reader.old) (O.bytes files.old) in IfOk result (WritesWhole (IsRunTimesText request.now.unit request.now.times programs) (W.contents writer.old) (W.contents writer.new)) }
     ensures left { let programs = text_bytes (name_in request.now.program) (R.remaining reader.old) (O.bytes files.old) in OnErr result (LeavesRunTimes request.now.unit request.now.times programs (W.contents writer.old) (W.contents writer.new)) }
@@ -58,7 +58,7 @@ fn repeat_read<H: Threads + Wait + Sync + AllocGlobal, P: Read, W: Write>(
     programs: &mut P,
     writer: &mut W,
 ) -> Result<u8, RunFailure>
-    requires unit { IsInRange request.now.unit }
+    requires unit { IsUnitInRange request.now.unit }
     requires turns { request.now.drain_turns ≤ drain_turns_limit }
     ensures whole { IfOk result (WritesWhole (IsRunTimesText request.now.unit request.now.times (P.remaining programs.old)) (W.contents writer.old) (W.contents writer.new)) }
     ensures left { OnErr result (LeavesRunTimes request.now.unit request.now.times (P.remaining programs.old) (W.contents writer.old) (W.contents writer.new)) }
@@ -86,7 +86,7 @@ fn repeat<H: Threads + Wait + Sync + AllocGlobal, W: Write>(
     program: &Program,
     writer: &mut W,
 ) -> Result<(), RunFailure>
-    requires unit { IsInRange request.now.unit }
+    requires unit { IsUnitInRange request.now.unit }
     requires turns { request.now.drain_turns ≤ drain_turns_limit }
     ensures whole { OnOk result ((text : List ℕ) × AreRunTraces request.now.unit program.now times text × Appends (W.contents writer.old) (W.contents writer.new) text) }
     ensures left { OnErr result ((done : ℕ) × (done ≤ times) × (text : List ℕ) × AreRunTraces request.now.unit program.now done text × AppendsPrefix (W.contents writer.old) (W.contents writer.new) text) }
@@ -107,9 +107,9 @@ fn run_once<H: Threads + Wait + Sync + AllocGlobal>(
     seed: u64,
     program: &Program,
 ) -> Result<Vec<u8>, RunFailure>
-    requires unit { IsInRange request.now.unit }
+    requires unit { IsUnitInRange request.now.unit }
     requires turns { request.now.drain_turns ≤ drain_turns_limit }
-    ensures { IfOk result (λ text. IsRunTrace request.now.unit program.now text.items) }
+    ensures { IfOk result (λ text. IsTraceTextOfRun request.now.unit program.now text.items) }
 {
     let unit = make_unit(rt.alloc(), request.unit)?;
     run_on(rt, Box::new(rt.alloc(), unit)?, request, seed, program)
@@ -125,7 +125,7 @@ fn run_on<H: Threads + Wait + Sync + AllocGlobal>(
 ) -> Result<Vec<u8>, RunFailure>
     requires unit { value_of unit ≡ unit_of request.now.unit }
     requires turns { request.now.drain_turns ≤ drain_turns_limit }
-    ensures { IfOk result (λ text. IsRunTrace request.now.unit program.now text.items) }
+    ensures { IfOk result (λ text. IsTraceTextOfRun request.now.unit program.now text.items) }
 {
     let drains = Drains {
         seed,

@@ -16,7 +16,7 @@ ghost use Rattle.run_serving.specs.Replaying.{IsReplayOf, IsReplayText, IsSchedu
 use crate::printing::{Printed, print_record, print_refusal};
 use crate::units::make_unit;
 use command_line::{RunOptions, TextPair};
-use request_texts::{Surroundings, open};
+use request_texts::{Environment, open};
 use std::io::{Read, Write};
 use std::sync::Wait;
 use std::thread::Threads;
@@ -27,7 +27,7 @@ use unit_core::{Account, MemoryUnit, replay};
 
 /// Replays a program, the first text, by a schedule, the second, and writes what the options ask for: the status. Their
 /// files are opened before one is read.
-pub fn replay_named<H: Threads + Wait + AllocGlobal, O: Surroundings, R: Read, W: Write>(
+pub fn replay_named<H: Threads + Wait + AllocGlobal, O: Environment, R: Read, W: Write>(
     rt: &H,
     options: &RunOptions,
     texts: TextPair<'_>,

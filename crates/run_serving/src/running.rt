@@ -19,7 +19,7 @@ use crate::printing::{Printed, print_record, print_refusal};
 use crate::units::make_unit;
 use command_line::RunRequest;
 use issue_desk::{Issuers, OpenGate, RunThreads, run_with_drainer};
-use request_texts::{Surroundings, open};
+use request_texts::{Environment, open};
 use std::io::{Read, Write};
 use std::sync::Wait;
 use std::thread::Threads;
@@ -37,7 +37,7 @@ pub(crate) struct Drains {
 }
 
 /// Runs the program in a file, or else what the reader has, and writes what the request's options ask for: the status.
-pub fn run_named<H: Threads + Wait + Sync + AllocGlobal, O: Surroundings, R: Read, W: Write>(
+pub fn run_named<H: Threads + Wait + Sync + AllocGlobal, O: Environment, R: Read, W: Write>(
     rt: &H,
     request: &RunRequest<'_>,
     files: &mut O,

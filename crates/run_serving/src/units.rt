@@ -1,6 +1,6 @@
 //! The memory units that options ask for, made in one place.
 ghost use Rattle.std.specs.Prelude.{◌≡◌, ◌≤◌, IfOk, map, replicate};
-ghost use Rattle.run_serving.specs.Ranges.{IsInRange};
+ghost use Rattle.run_serving.specs.Ranges.{IsUnitInRange};
 ghost use Rattle.run_serving.specs.BenchUnits.{bench_value};
 ghost use Rattle.run_serving.specs.Printing.{unit_of};
 
@@ -22,7 +22,7 @@ pub(crate) enum BenchUnit {
 
 /// The unit that the options ask for, which has taken no step; or OutOfMemory where an allocation was refused.
 pub(crate) fn make_unit(alloc: Global, options: UnitOptions) -> Result<BenchUnit, OutOfMemory>
-    requires { IsInRange options }
+    requires { IsUnitInRange options }
     ensures { IfOk result (λ unit. bench_value unit ≡ unit_of options) }
 {
     Ok(match options.kind {
@@ -44,7 +44,7 @@ pub(crate) fn make_units(
     options: UnitOptions,
     count: u64,
 ) -> Result<Vec<BenchUnit>, OutOfMemory>
-    requires { IsInRange options }
+    requires { IsUnitInRange options }
     ensures { IfOk result (λ units. map bench_value units.items ≡ replicate count (unit_of options)) }
 {
     let mut units = Vec::new(alloc);

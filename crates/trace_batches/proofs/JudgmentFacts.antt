@@ -1,7 +1,6 @@
--- Lemmas on what is said of pieces: one thing of each, which is what its report says, and the same of its first bytes.
+-- Lemmas on what is said of trace texts: one thing of each, which is what its report says, and the same of its first bytes.
 use Rattle.std.proofs.Common.{◌≡◌, ◌∙◌, ◌↔◌, ◌⊎◌, ℕ, ◌<◌, ◌≤◌, Bool, true, false, Option, None, List, length, take, map, [], ◌∷◌, Some, refl, ap, ap₂, sym, subst, inl, inr, arith, ⊎_elim}
-use Rattle.std.specs.Option.{option_map_or, is_some}
-use Rattle.std.specs.Prelude.{MatchOption}
+use Rattle.std.specs.Option.{option_map_or}
 use Rattle.std.proofs.lemmas.Bool.{cases_lt, false≢true}
 use Rattle.std.proofs.lemmas.List.{take_all}
 use Rattle.tso_ops.specs.Values.{TraceValue}
@@ -26,7 +25,7 @@ use Rattle.trace_reports.specs.declared.findings.Finding.{Finding}
 use Rattle.trace_reports.specs.declared.verdicts.Verdict.{Verdict}
 use Rattle.trace_reports.specs.declared.verdicts.Verdict.TheVariants as verdict
 use Rattle.trace_reports.specs.Findings.{IsFinding}
-use Rattle.trace_reports.specs.Renderings.{IsTextOfInput, IsTextOfTrace, SaidOfTrace}
+use Rattle.trace_reports.specs.Renderings.{IsTextOfInput, IsTextOfTrace}
 use Rattle.trace_reports.specs.RefusalLines.{refusal_text}
 use Rattle.trace_reports.specs.Reports.{IsReport, refusal_shown, reported}
 use Rattle.trace_reports.specs.Violations.{IsViolation}
@@ -36,15 +35,15 @@ use Rattle.trace_reports.specs.declared.answers.Answer.TheVariants as answer
 use Rattle.trace_decisions.specs.declared.decisions.Decision.{Decision}
 use Rattle.trace_decisions.specs.declared.decisions.Decision.TheVariants.{Decided}
 use Rattle.trace_decisions.specs.declared.decisions.Decision.TheVariants as decided
-use Rattle.trace_decisions.specs.Decisions.{IsDecision, Tells}
-use Rattle.trace_decisions.specs.DecisionTexts.{answer_of, IsDecisionText}
+use Rattle.trace_decisions.specs.Decisions.{IsDecision}
+use Rattle.trace_decisions.specs.DecisionTexts.{answer_of, AnswerSays, IsDecisionText}
 use Rattle.trace_explanation.specs.Explained.{explained, refusal_explained}
 use Rattle.decision_explanation.specs.Explained.{decision_explained}
 use Rattle.request_options.specs.declared.batches.BatchMethod.{BatchMethod}
 use Rattle.request_options.specs.declared.batches.BatchMethod.TheVariants.{Judge, Decide}
 use Rattle.trace_batches.specs.declared.judgments.Judgment.{Judgment}
 use Rattle.trace_batches.specs.declared.judgments.Judgment.TheVariants.{NoViolation, Violation, Consistent, Undecided, Refused}
-use Rattle.trace_batches.specs.declared.questions.Question.{Question}
+use Rattle.trace_batches.specs.declared.questions.BatchQuestion.{BatchQuestion}
 use Rattle.trace_batches.specs.Internal.Decided.{judgment_of}
 use Rattle.trace_batches.specs.Judgments.{AreJudgments, asking, body_of, ExplainsViolation, IsBody, IsJudgment, IsJudgmentOn, judgment_verdict, plain, says_undecided}
 
@@ -71,10 +70,10 @@ no_body method t (Some text) is = absurd (false≢true is.0)
 
 -- a certificate that holds, as the evidence of a decision
 decided_by : (t : TraceValue) (effort : ℕ) (c : Certificate) → Holds t c →
-    IsDecisionText decision_explained t effort (decision_explained t (Decided (evidence_of c))) answer.Violation
-decided_by t effort (Unwritten n) holds = record { decision = Decided (evidence_of (Unwritten n)); decided = holds; whole = refl; says = refl }
+    IsDecisionText decision_explained effort t (decision_explained t (Decided (evidence_of c))) answer.Violation
+decided_by t effort (Unwritten n) holds = record { finding = Decided (evidence_of (Unwritten n)); found = holds; whole = refl; says = refl }
 decided_by t effort (Cycle steps numbers) holds =
-    record { decision = Decided (evidence_of (Cycle steps numbers)); decided = (certificate_holds_as t steps numbers).0 holds; whole = refl; says = refl }
+    record { finding = Decided (evidence_of (Cycle steps numbers)); found = (certificate_holds_as t steps numbers).0 holds; whole = refl; says = refl }
 
 -- ---- what is found of a trace, or decided
 
@@ -87,29 +86,29 @@ found_some t f explains certificate body found is said =
       subst (IsBody (asking Judge explains) t) (sym said) (is_body Judge explains t (explained t f) text),
     )
 
-decided_violation : (t : TraceValue) (d : Decision) (effort : ℕ) (explains : Bool) → IsDecision t effort d → (IsConsistent t → ⊥) → answer.Violation ≡ answer_of d →
+decided_violation : (t : TraceValue) (d : Decision) (effort : ℕ) (explains : Bool) → IsDecision effort t d → (IsConsistent t → ⊥) → answer.Violation ≡ answer_of d →
     IsJudgmentOn (asking (Decide effort) explains) t (Violation (body_of explains (decision_explained t d)))
 decided_violation t d effort explains is none says =
-    let text : IsDecisionText decision_explained t effort (decision_explained t d) answer.Violation = record { decision = d; decided = is; whole = refl; says = says } in
+    let text : IsDecisionText decision_explained effort t (decision_explained t d) answer.Violation = record { finding = d; found = is; whole = refl; says = says } in
     (none, is_body (Decide effort) explains t (decision_explained t d) text)
 
-pub decision_said : (t : TraceValue) (d : Decision) (effort : ℕ) (explains : Bool) → IsDecision t effort d → Tells t d → IsJudgmentOn (asking (Decide effort) explains) t (judgment_of explains t d)
+pub decision_said : (t : TraceValue) (d : Decision) (effort : ℕ) (explains : Bool) → IsDecision effort t d → AnswerSays t (answer_of d) → IsJudgmentOn (asking (Decide effort) explains) t (judgment_of explains t d)
 decision_said t (Decided (Order order)) effort explains is tells = tells
 decision_said t (Decided (evidence.Unwritten n)) effort explains is tells = decided_violation t (Decided (evidence.Unwritten n)) effort explains is tells refl
 decision_said t (Decided (Refutation lines)) effort explains is tells = decided_violation t (Decided (Refutation lines)) effort explains is tells refl
 decision_said t (decided.Undecided steps) effort explains is tells = is
 
--- ---- one judgment of a piece
+-- ---- one judgment of a trace text
 
--- what is said of the trace that a piece spells is said of the piece
-pub said_of_piece : (question : Question) (piece : List ℕ) (t : TraceValue) (judgment : Judgment) → SpellsTrace piece t → IsJudgmentOn question t judgment → IsJudgment question piece judgment
-said_of_piece question piece t NoViolation spells said = (t, spells, said)
-said_of_piece question piece t (Violation body) spells said = (t, spells, said)
-said_of_piece question piece t Consistent spells said = (t, spells, said)
-said_of_piece question piece t (Undecided steps) spells said = (t, spells, said)
-said_of_piece question piece t (Refused fault) spells said = absurd said
+-- what is said of the trace that a trace text spells is said of the trace text
+pub said_of_trace_text : (question : BatchQuestion) (piece : List ℕ) (t : TraceValue) (judgment : Judgment) → SpellsTrace piece t → IsJudgmentOn question t judgment → IsJudgment question piece judgment
+said_of_trace_text question piece t NoViolation spells said = (t, spells, said)
+said_of_trace_text question piece t (Violation body) spells said = (t, spells, said)
+said_of_trace_text question piece t Consistent spells said = (t, spells, said)
+said_of_trace_text question piece t (Undecided steps) spells said = (t, spells, said)
+said_of_trace_text question piece t (Refused fault) spells said = absurd said
 
-module _ {said : SaidOfTrace} where
+module _ {said : TraceValue → Finding → List ℕ} where
   -- a trace of which a text says so is no violation
   not_violation : (t : TraceValue) (text : List ℕ) (v : Verdict) → IsTextOfTrace said t text v → v ≡ verdict.NoViolation → IsViolation t → ⊥
   not_violation t text v is e violation = other (sym e ∙ (trace_violation t text v is).1 violation)
@@ -154,7 +153,7 @@ some_by_decision effort explains piece = by (some_text reported refusal_shown pi
     by : (text : List ℕ) × (v : Verdict) × IsReport piece text v → (judgment : Judgment) × IsJudgment (asking (Decide effort) explains) piece judgment
     by report = of_input report.0 report.1 report.2
 
-pub some_judgment : (question : Question) (piece : List ℕ) → (judgment : Judgment) × IsJudgment question piece judgment
+pub some_judgment : (question : BatchQuestion) (piece : List ℕ) → (judgment : Judgment) × IsJudgment question piece judgment
 some_judgment question piece = by question.method refl
   where
     by : (method : BatchMethod) → question.method ≡ method → (judgment : Judgment) × IsJudgment question piece judgment
@@ -171,7 +170,7 @@ one_refused piece f g first second =
     let same = trace_laws.one_refusal piece f.line g.line f.why g.why first second in
     same_fault f g same.0 same.1
 
--- a piece that spells a trace isn't refused
+-- a trace text that spells a trace isn't refused
 spelled_not_refused : (X : Type 0) (piece : List ℕ) (t : TraceValue) (f : TextFault) → SpellsTrace piece t → IsTraceRefusal piece f.line f.why → X
 spelled_not_refused X piece t f spells refused = absurd (trace_laws.not_both piece t f.line f.why spells refused)
 
@@ -253,9 +252,9 @@ refusal_said piece text v f (inr p) is =
     let same = trace_laws.one_refusal piece p.0 f.line p.1 f.why p.2 is in
     p.3 ∙ ap (λ line. refusal_text line p.1) same.0 ∙ ap (refusal_text f.line) same.1
 
--- ---- the first bytes of a piece
+-- ---- the first bytes of a trace text
 
--- all of a piece that spells a trace is kept
+-- all of a trace text that spells a trace is kept
 kept_spelled : (piece : List ℕ) (t : TraceValue) → SpellsTrace piece t → take trace_read_limit piece ≡ piece
 kept_spelled piece t spells =
     ⊎_elim
@@ -263,18 +262,18 @@ kept_spelled piece t spells =
     (λ (fits : length piece ≤ text_byte_limit). take_all trace_read_limit piece (omega arith))
     (cases_lt text_byte_limit (length piece))
 
-pub judgment_of_prefix : (question : Question) (piece : List ℕ) (judgment : Judgment) → IsJudgment question (take trace_read_limit piece) judgment → IsJudgment question piece judgment
+pub judgment_of_prefix : (question : BatchQuestion) (piece : List ℕ) (judgment : Judgment) → IsJudgment question (take trace_read_limit piece) judgment → IsJudgment question piece judgment
 judgment_of_prefix question piece NoViolation is = (is.0, spells_of_prefix piece is.0 is.1, is.2)
 judgment_of_prefix question piece (Violation body) is = (is.0, spells_of_prefix piece is.0 is.1, is.2)
 judgment_of_prefix question piece Consistent is = (is.0, spells_of_prefix piece is.0 is.1, is.2)
 judgment_of_prefix question piece (Undecided steps) is = (is.0, spells_of_prefix piece is.0 is.1, is.2)
 judgment_of_prefix question piece (Refused f) is = refusal_of_prefix piece f.line f.why is
 
--- the same of a piece that spells a trace, of which all is kept
+-- the same of a trace text that spells a trace, of which all is kept
 of_spelled : (piece : List ℕ) (Is : List ℕ → Type 0) (t : TraceValue) → SpellsTrace piece t → Is piece → Is (take trace_read_limit piece)
 of_spelled piece Is t spells is = subst Is (sym (kept_spelled piece t spells)) is
 
-prefix_of_judgment : (question : Question) (piece : List ℕ) (judgment : Judgment) → IsJudgment question piece judgment → IsJudgment question (take trace_read_limit piece) judgment
+prefix_of_judgment : (question : BatchQuestion) (piece : List ℕ) (judgment : Judgment) → IsJudgment question piece judgment → IsJudgment question (take trace_read_limit piece) judgment
 prefix_of_judgment question piece NoViolation is = of_spelled piece (λ bytes. IsJudgment question bytes NoViolation) is.0 is.1 is
 prefix_of_judgment question piece (Violation body) is = of_spelled piece (λ bytes. IsJudgment question bytes (Violation body)) is.0 is.1 is
 prefix_of_judgment question piece Consistent is = of_spelled piece (λ bytes. IsJudgment question bytes Consistent) is.0 is.1 is
@@ -284,26 +283,26 @@ prefix_of_judgment question piece (Refused f) is =
     let same : kept.0 ≡ Refused f = one_judgment false piece kept.0 (Refused f) (judgment_of_prefix (asking Judge false) piece kept.0 kept.1) is in
     subst (IsJudgment (asking Judge false) (take trace_read_limit piece)) same kept.1
 
--- and of the piece the same is said as of them
-pub same_judgments : (question : Question) (piece : List ℕ) (judgment : Judgment) → IsJudgment question (take trace_read_limit piece) judgment ↔ IsJudgment question piece judgment
+-- and of the trace text the same is said as of them
+pub same_judgments : (question : BatchQuestion) (piece : List ℕ) (judgment : Judgment) → IsJudgment question (take trace_read_limit piece) judgment ↔ IsJudgment question piece judgment
 same_judgments question piece judgment = (judgment_of_prefix question piece judgment, prefix_of_judgment question piece judgment)
 
 -- all of a violation is kept
-pub kept_violation : (question : Question) (piece : List ℕ) (body : Option (List ℕ)) → IsJudgment question piece (Violation body) → take trace_read_limit piece ≡ piece
+pub kept_violation : (question : BatchQuestion) (piece : List ℕ) (body : Option (List ℕ)) → IsJudgment question piece (Violation body) → take trace_read_limit piece ≡ piece
 kept_violation question piece body is = kept_spelled piece is.0 is.1
 
--- ---- judgments of many pieces
+-- ---- judgments of many trace texts
 
--- the first bytes of pieces
+-- the first bytes of trace texts
 abbrev pub firsts : List (List ℕ) → List (List ℕ)
 firsts pieces = map (λ piece. take trace_read_limit piece) pieces
 
-pub judgments_of_firsts : (question : Question) (pieces : List (List ℕ)) (judgments : List Judgment) → AreJudgments question (firsts pieces) judgments → AreJudgments question pieces judgments
+pub judgments_of_firsts : (question : BatchQuestion) (pieces : List (List ℕ)) (judgments : List Judgment) → AreJudgments question (firsts pieces) judgments → AreJudgments question pieces judgments
 judgments_of_firsts question [] [] are = tt
 judgments_of_firsts question (p ∷ ps) (j ∷ js) are = (judgment_of_prefix question p j are.0, judgments_of_firsts question ps js are.1)
 judgments_of_firsts question pieces judgments are = absurd are
 
-pub some_judgments : (question : Question) (pieces : List (List ℕ)) → (judgments : List Judgment) × AreJudgments question pieces judgments
+pub some_judgments : (question : BatchQuestion) (pieces : List (List ℕ)) → (judgments : List Judgment) × AreJudgments question pieces judgments
 some_judgments question [] = ([], tt)
 some_judgments question (p ∷ ps) =
     let one = some_judgment question p in
@@ -316,8 +315,3 @@ one_list_of_judgments explains (p ∷ ps) (j ∷ js) (k ∷ ks) first second = a
 one_list_of_judgments explains [] js (k ∷ ks) first second = absurd second
 one_list_of_judgments explains (p ∷ ps) js [] first second = absurd second
 one_list_of_judgments explains pieces js ks first second = absurd first
-
--- what holds where an option has nothing
-pub none_holds : {X : Type 0} (o : Option X) (Nothing : Type 0) (Something : X → Type 0) → is_some o ≡ false → MatchOption o Nothing Something → Nothing
-none_holds None Nothing Something none holds = holds
-none_holds (Some x) Nothing Something none holds = absurd (let clash : true ≡ false = none in cc)

@@ -2,7 +2,7 @@ pub mod BatchFacts
 pub mod JobFacts
 pub mod JudgmentFacts
 pub mod TallyFacts
-mod PieceReports
+mod TraceTextReports
 pub mod ResultFacts
 mod TraceTexts
 pub mod WholeFacts

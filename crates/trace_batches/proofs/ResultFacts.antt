@@ -6,38 +6,38 @@ use Rattle.text_streams.proofs.ReadingFacts.{reads_whole}
 use Rattle.request_options.specs.declared.batches.BatchMethod.TheVariants.{Judge}
 use Rattle.request_options.specs.declared.batches.BatchPrinting.{BatchPrinting}
 use Rattle.trace_batches.specs.declared.judgments.Judgment.{Judgment}
-use Rattle.trace_batches.specs.declared.questions.Question.{Question}
-use Rattle.trace_batches.specs.Batches.{AreFound, AreResults, AreResultsOf, AreResultsOfAll, BatchText, TextResults, all_judgments, any_unread, count_violations, known_texts, next_notes, read_text, results_notes, results_notes_of_all, results_text, results_texts}
+use Rattle.trace_batches.specs.declared.questions.BatchQuestion.{BatchQuestion}
+use Rattle.trace_batches.specs.Batches.{AreFound, AreResults, AreResultsOf, AreResultsOfAll, BatchText, TextResults, all_judgments, any_unread, count_violations, known_texts, next_notes, readable_text, results_notes, results_notes_of_all, results_text, results_texts}
 use Rattle.trace_batches.specs.Judgments.{AreJudgments, asking}
 use Rattle.trace_batches.proofs.JobFacts.{violations-append}
 use Rattle.trace_batches.proofs.JudgmentFacts.{one_list_of_judgments, some_judgments}
-use Rattle.trace_streams.proofs.PieceFacts.{one_list_of_pieces, some_pieces}
+use Rattle.trace_streams.proofs.TraceTextFacts.{one_list_of_trace_texts, some_trace_texts}
 
-pub results-append : (question : Question) (texts more : List BatchText) (all others : List TextResults) → AreResultsOfAll question texts all → AreResultsOfAll question more others →
+pub results-append : (question : BatchQuestion) (texts more : List BatchText) (all others : List TextResults) → AreResultsOfAll question texts all → AreResultsOfAll question more others →
     AreResultsOfAll question (texts ++ more) (all ++ others)
 results-append question [] more [] others first second = second
 results-append question (text ∷ texts) more (results ∷ all) others first second = (first.0, results-append question texts more all others first.1 second)
 results-append question texts more all others first second = absurd first
 
 -- what is found of a text
-some_found : (question : Question) (is_unread : Bool) (bytes : Option (List ℕ)) → (pieces : List (List ℕ)) × (judgments : List Judgment) × AreFound question is_unread bytes pieces judgments
+some_found : (question : BatchQuestion) (is_unread : Bool) (bytes : Option (List ℕ)) → (pieces : List (List ℕ)) × (judgments : List Judgment) × AreFound question is_unread bytes pieces judgments
 some_found question true bytes = ([], [], (refl, refl))
 some_found question false bytes =
     let stream = unwrap_or bytes [] in
-    let pieces = some_pieces stream in
+    let pieces = some_trace_texts stream in
     let judgments = some_judgments question pieces.0 in
-    (pieces.0, judgments.0, reads_whole (λ s. AreResults question s pieces.0 judgments.0) bytes stream (own bytes) (record { are_pieces = pieces.1; are_judgments = judgments.1 }))
+    (pieces.0, judgments.0, reads_whole (λ s. AreResults question s pieces.0 judgments.0) bytes stream (own bytes) (record { are_trace_texts = pieces.1; are_judgments = judgments.1 }))
   where
     own : (bytes : Option (List ℕ)) → IfSome bytes (λ all. unwrap_or bytes [] ≡ all)
     own None = tt
     own (Some all) = refl
 
-pub some_results : (question : Question) (text : BatchText) → (results : TextResults) × AreResultsOf question text results
+pub some_results : (question : BatchQuestion) (text : BatchText) → (results : TextResults) × AreResultsOf question text results
 some_results question text =
     let found = some_found question text.is_unread text.bytes in
     (record { name = text.name; is_unread = text.is_unread; pieces = found.0; judgments = found.1 }, (refl, refl, found.2))
 
-pub some_results_of_all : (question : Question) (texts : List BatchText) → (all : List TextResults) × AreResultsOfAll question texts all
+pub some_results_of_all : (question : BatchQuestion) (texts : List BatchText) → (all : List TextResults) × AreResultsOfAll question texts all
 some_results_of_all question [] = ([], tt)
 some_results_of_all question (text ∷ texts) =
     let one = some_results question text in
@@ -51,11 +51,11 @@ same_results a b name unread pieces judgments = same a.name b.name a.is_unread b
         ◌≡◌ {A = TextResults} (record { name = n; is_unread = u; pieces = ps; judgments = js }) (record { name = m; is_unread = v; pieces = qs; judgments = ks })
     same n m u v ps qs js ks names unread pieces judgments = rw (names, unread, pieces, judgments) refl
 
-one_results : (explains : Bool) (name : Option (List ℕ)) (stream : List ℕ) (a b : TextResults) → AreResultsOf (asking Judge explains) (read_text name (Some stream)) a → AreResultsOf (asking Judge explains) (read_text name (Some stream)) b → a ≡ b
+one_results : (explains : Bool) (name : Option (List ℕ)) (stream : List ℕ) (a b : TextResults) → AreResultsOf (asking Judge explains) (readable_text name (Some stream)) a → AreResultsOf (asking Judge explains) (readable_text name (Some stream)) b → a ≡ b
 one_results explains name stream a b p q =
     let first = p.2.of_all in
     let second = q.2.of_all in
-    let pieces = one_list_of_pieces stream a.pieces b.pieces first.are_pieces second.are_pieces in
+    let pieces = one_list_of_trace_texts stream a.pieces b.pieces first.are_trace_texts second.are_trace_texts in
     let are = subst (λ (ps : List (List ℕ)). AreJudgments (asking Judge explains) ps a.judgments) pieces first.are_judgments in
     same_results a b (p.0 ∙ sym q.0) (p.1 ∙ sym q.1) pieces (one_list_of_judgments explains b.pieces a.judgments b.judgments are second.are_judgments)
 

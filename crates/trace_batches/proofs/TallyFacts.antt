@@ -9,7 +9,7 @@ use Rattle.trace_reports.specs.declared.answers.Answer.{Answer}
 use Rattle.trace_reports.specs.declared.answers.Answer.TheVariants.{Clear, Violation, Undecided, Refused}
 use Rattle.trace_batches.specs.declared.tallies.Tally.{Tally}
 use Rattle.trace_batches.specs.Batches.{Counts, batch_verdict, count_judged}
-use Rattle.trace_batches.specs.BatchLines.{are_too_few, tally_of, total_line, total_text}
+use Rattle.trace_batches.specs.BatchLines.{are_too_few, batch_total_text, tally_of, total_line}
 use Rattle.request_options.specs.declared.batches.BatchFormat.{BatchFormat}
 use Rattle.request_options.specs.declared.batches.BatchMethod.{BatchMethod}
 use Rattle.trace_batches.specs.declared.judgments.Judgment.{Judgment}
@@ -102,8 +102,8 @@ module _ (required : Option ℕ) where
 same_tally : (tally : Tally) (judgments : List Judgment) → Counts tally judgments → tally ≡ tally_of judgments
 same_tally tally judgments counts = rw (sym counts.traces, sym counts.consistent, sym counts.violations, sym counts.undecided, sym counts.refused) refl
 
-pub total_by_counts : (format : BatchFormat) (method : BatchMethod) (tally : Tally) (judgments : List Judgment) → Counts tally judgments → total_text format method tally ≡ total_line format method judgments
-total_by_counts format method tally judgments counts = ap (total_text format method) (same_tally tally judgments counts)
+pub total_by_counts : (format : BatchFormat) (method : BatchMethod) (tally : Tally) (judgments : List Judgment) → Counts tally judgments → batch_total_text format method tally ≡ total_line format method judgments
+total_by_counts format method tally judgments counts = ap (batch_total_text format method) (same_tally tally judgments counts)
 
 -- ---- more numbers
 

@@ -16,10 +16,10 @@ use Rattle.trace_batches.specs.declared.judgments.Judgment.{Judgment}
 use Rattle.trace_reports.specs.declared.answers.Answer.{Answer}
 use Rattle.trace_batches.specs.Judgments.{asking}
 use Rattle.trace_batches.specs.declared.tallies.Tally.{Tally}
-use Rattle.trace_batches.specs.BatchLines.{fault_text, few_text, total_text}
+use Rattle.trace_batches.specs.BatchLines.{batch_total_text, few_text, read_fault_text}
 use Rattle.trace_batches.specs.BatchNames.{text_label}
-use Rattle.trace_batches.specs.Batches.{AreResults, AreResultsOf, AreResultsOfAll, asked, BatchText, Counts, EndsBatch, HasJudged, HasWritten, IsBatch, Judges, LeavesBatch, LeavesEnd, LeavesText, TextPrinting, TextResults, WritesBatch, all_judgments, count_judged, count_violations, end_notes, head_text, known_texts, last_format, last_line, last_text, next_notes, note_text, notes_text, pieces_notes, pieces_text, read_text, results_notes_of_all, results_text, results_texts, under_name, unread_text, unread_text_line, verdict_of_all, verdict_with}
-use Rattle.trace_batches.specs.Internal.Progress.{LeavesPieces, Told, printing_by}
+use Rattle.trace_batches.specs.Batches.{AreResults, AreResultsOf, AreResultsOfAll, asked, BatchText, Counts, EndsBatch, HasJudged, HasWritten, IsBatch, Judges, LeavesBatch, LeavesEnd, LeavesText, TextPrinting, TextResults, WritesBatch, all_judgments, count_judged, count_violations, end_notes, batch_head_text, known_texts, last_format, last_line, last_text, next_notes, note_text, notes_text, trace_notes, trace_results_text, readable_text, results_notes_of_all, results_text, results_texts, under_name, unreadable_text, unread_text_line, verdict_of_all, verdict_with}
+use Rattle.trace_batches.specs.Internal.Progress.{HasWrittenAll, LeavesTraceTexts, printing_by}
 use Rattle.trace_batches.proofs.BatchFacts.{told_results}
 use Rattle.trace_batches.proofs.ResultFacts.{any_more, any_read, judgments-push, notes_later, notes_push, one_results_of_all, results-append, some_results, some_results_of_all, texts-append}
 use Rattle.trace_batches.proofs.TallyFacts.{total_by_counts}
@@ -36,7 +36,7 @@ abbrev last_of : BatchPrinting → List TextResults → List ℕ
 last_of printing all = last_text printing (last_line printing (all_judgments all))
 
 abbrev text_of : BatchPrinting → List TextResults → List ℕ
-text_of printing all = head_text printing ++ (results_texts printing all ++ last_of printing all)
+text_of printing all = batch_head_text printing ++ (results_texts printing all ++ last_of printing all)
 
 abbrev verdict_of : BatchPrinting → List TextResults → Answer
 verdict_of printing all = verdict_of_all printing.required all
@@ -78,19 +78,19 @@ left_of printing texts all old new before after first more notes others are same
 )
 
 -- the head was written, or a prefix of it
-pub begun : (batch : Batch) (printing : BatchPrinting) (old new before : Option (List ℕ)) → HasJudged batch printing [] → Appends old new (head_text printing) → HasWritten batch printing [] old new before before
+pub begun : (batch : Batch) (printing : BatchPrinting) (old new before : Option (List ℕ)) → HasJudged batch printing [] → Appends old new (batch_head_text printing) → HasWritten batch printing [] old new before before
 begun batch printing old new before has written = record {
   all = [];
   are_results = tt;
   judged = has;
-  written = subst (Appends old new) (sym (append-nil (head_text printing))) written;
+  written = subst (Appends old new) (sym (append-nil (batch_head_text printing))) written;
   noted = Appends-nil before;
 }
 
-pub head_left : (printing : BatchPrinting) (texts : List BatchText) (old new before : Option (List ℕ)) → AppendsPrefix old new (head_text printing) → LeavesBatch printing texts old new before before
+pub head_left : (printing : BatchPrinting) (texts : List BatchText) (old new before : Option (List ℕ)) → AppendsPrefix old new (batch_head_text printing) → LeavesBatch printing texts old new before before
 head_left printing texts old new before written =
     let some = some_results_of_all (asked printing) texts in
-    left_of printing texts some.0 old new before before (head_text printing) (results_texts printing some.0 ++ last_of printing some.0) [] (notes_text printing some.0) some.1 refl refl written
+    left_of printing texts some.0 old new before before (batch_head_text printing) (results_texts printing some.0 ++ last_of printing some.0) [] (notes_text printing some.0) some.1 refl refl written
     (none_written before [])
 
 module _ (batch : Batch) (printing : BatchPrinting) (texts : List BatchText) (old mid before between : Option (List ℕ)) (w : HasWritten batch printing texts old mid before between) where
@@ -98,7 +98,7 @@ module _ (batch : Batch) (printing : BatchPrinting) (texts : List BatchText) (ol
   told = results_texts printing w.all
 
   abbrev so_far : List ℕ
-  so_far = head_text printing ++ told
+  so_far = batch_head_text printing ++ told
 
   abbrev notes_so_far : List ℕ
   notes_so_far = results_notes_of_all printing 0 w.all
@@ -108,8 +108,8 @@ module _ (batch : Batch) (printing : BatchPrinting) (texts : List BatchText) (ol
   judged_more after text new errors judges =
       let one = judges printing w.all w.judged in
       let this = results_text printing one.0 in
-      let same : so_far ++ this ≡ head_text printing ++ results_texts printing (w.all ++ one.0 ∷ []) =
-      append_assoc (head_text printing) told this ∙ ap (λ t. head_text printing ++ t) (sym (texts-append printing w.all (one.0 ∷ []) ∙ ap (λ t. told ++ t) (append-nil this))) in
+      let same : so_far ++ this ≡ batch_head_text printing ++ results_texts printing (w.all ++ one.0 ∷ []) =
+      append_assoc (batch_head_text printing) told this ∙ ap (λ t. batch_head_text printing ++ t) (sym (texts-append printing w.all (one.0 ∷ []) ∙ ap (λ t. told ++ t) (append-nil this))) in
       record {
         all = w.all ++ one.0 ∷ [];
         are_results = results-append (asked printing) texts (text ∷ []) w.all (one.0 ∷ []) w.are_results (one.1, tt);
@@ -128,8 +128,8 @@ module _ (batch : Batch) (printing : BatchPrinting) (texts : List BatchText) (ol
       let others = results_texts printing rest.0 in
       let last = last_of printing all in
       let same : (so_far ++ this) ++ (others ++ last) ≡ text_of printing all =
-      append_assoc so_far this (others ++ last) ∙ append_assoc (head_text printing) told (this ++ (others ++ last)) ∙ ap (λ t. head_text printing ++ (told ++ t)) (sym (append_assoc this others last))
-      ∙ ap (λ t. head_text printing ++ t) (sym (append_assoc told (this ++ others) last)) ∙ ap (λ t. head_text printing ++ (t ++ last)) (sym (texts-append printing w.all (one.0 ∷ rest.0))) in
+      append_assoc so_far this (others ++ last) ∙ append_assoc (batch_head_text printing) told (this ++ (others ++ last)) ∙ ap (λ t. batch_head_text printing ++ (told ++ t)) (sym (append_assoc this others last))
+      ∙ ap (λ t. batch_head_text printing ++ t) (sym (append_assoc told (this ++ others) last)) ∙ ap (λ t. batch_head_text printing ++ (t ++ last)) (sym (texts-append printing w.all (one.0 ∷ rest.0))) in
       let next = next_notes printing w.all one.0 in
       let more = results_notes_of_all printing (count_violations (all_judgments w.all) + count_violations one.0.judgments) rest.0 in
       let end = end_notes printing all in
@@ -142,7 +142,7 @@ module _ (batch : Batch) (printing : BatchPrinting) (texts : List BatchText) (ol
 
   -- the last line was written, or a prefix of it
   all_of : so_far ++ last_of printing w.all ≡ text_of printing w.all
-  all_of = append_assoc (head_text printing) told (last_of printing w.all)
+  all_of = append_assoc (batch_head_text printing) told (last_of printing w.all)
 
   pub ended : (new after : Option (List ℕ)) (verdict : Answer) → EndsBatch batch mid new between after verdict → WritesBatch printing texts old new before after verdict
   ended new after verdict ends = (
@@ -181,23 +181,23 @@ module _ (name bytes : Option (List ℕ)) (batch : Batch) (judging : TextJudging
   results_by pieces judgments = record { name = name; is_unread = false; pieces = pieces; judgments = judgments }
 
   of_method : (printing : BatchPrinting) (pieces : List (List ℕ)) (judgments : List Judgment) → batch.options.printing ≡ printing →
-      ReadsAs bytes (λ stream. AreResults (asked judging.options.printing) stream pieces judgments) → AreResultsOf (asked printing) (read_text name bytes) (results_by pieces judgments)
+      ReadsAs bytes (λ stream. AreResults (asked judging.options.printing) stream pieces judgments) → AreResultsOf (asked printing) (readable_text name bytes) (results_by pieces judgments)
   of_method printing pieces judgments prints are =
       (refl, refl, subst (λ (p : BatchPrinting). ReadsAs bytes (λ stream. AreResults (asked p) stream pieces judgments)) (printings ∙ prints) are)
 
   -- what is printed of it, and the notes on it
   text_is : (printing : BatchPrinting) (pieces : List (List ℕ)) (judgments : List Judgment) → batch.options.printing ≡ printing →
-      pieces_text (printing_by judging) 1 pieces judgments ≡ results_text printing (results_by pieces judgments)
-  text_is printing pieces judgments prints = ap (λ (way : TextPrinting). pieces_text way 1 pieces judgments) (way_is printing prints)
+      trace_results_text (printing_by judging) 1 pieces judgments ≡ results_text printing (results_by pieces judgments)
+  text_is printing pieces judgments prints = ap (λ (way : TextPrinting). trace_results_text way 1 pieces judgments) (way_is printing prints)
 
   notes_are : (printing : BatchPrinting) (all : List TextResults) (pieces : List (List ℕ)) (judgments : List Judgment) → HasJudged batch printing all →
-      pieces_notes (printing_by judging) judging.kept 1 judgments ≡ next_notes printing all (results_by pieces judgments)
-  notes_are printing all pieces judgments has = ap₂ (λ (way : TextPrinting) k. pieces_notes way k 1 judgments) (way_is printing has.prints) (kept_is printing all has)
+      trace_notes (printing_by judging) judging.kept 1 judgments ≡ next_notes printing all (results_by pieces judgments)
+  notes_are printing all pieces judgments has = ap₂ (λ (way : TextPrinting) k. trace_notes way k 1 judgments) (way_is printing has.prints) (kept_is printing all has)
 
   -- it was judged
-  pub text_judged : (after : Batch) (tally : Tally) (old new e f : Option (List ℕ)) → Told (printing_by judging) judging.kept bytes old new e f tally → after.options.printing ≡ batch.options.printing →
+  pub text_judged : (after : Batch) (tally : Tally) (old new e f : Option (List ℕ)) → HasWrittenAll (printing_by judging) judging.kept bytes old new e f tally → after.options.printing ≡ batch.options.printing →
       after.is_unread ≡ batch.is_unread → ((judgments others : List Judgment) → Counts batch.tally judgments → Counts tally others → Counts after.tally (judgments ++ others)) →
-      Judges (read_text name bytes) batch after old new e f
+      Judges (readable_text name bytes) batch after old new e f
   text_judged after tally old new e f t same unread added printing all has =
       let results = results_by t.pieces t.judgments in (
         results,
@@ -212,16 +212,16 @@ module _ (name bytes : Option (List ℕ)) (batch : Batch) (judging : TextJudging
       )
 
   -- it was told, and a fault came then
-  pub text_told : (tally : Tally) (old new e f : Option (List ℕ)) → Told (printing_by judging) judging.kept bytes old new e f tally → LeavesText (read_text name bytes) batch old new e f
+  pub text_told : (tally : Tally) (old new e f : Option (List ℕ)) → HasWrittenAll (printing_by judging) judging.kept bytes old new e f tally → LeavesText (readable_text name bytes) batch old new e f
   text_told tally old new e f t printing all has = (
     results_by t.pieces t.judgments,
     of_method printing t.pieces t.judgments has.prints (told_results (printing_by judging) judging.kept bytes old new e f tally t),
-    subst (AppendsPrefix old new) (text_is printing t.pieces t.judgments has.prints) (whole_written old new (pieces_text (printing_by judging) 1 t.pieces t.judgments) t.written),
-    subst (AppendsPrefix e f) (notes_are printing all t.pieces t.judgments has) (whole_written e f (pieces_notes (printing_by judging) judging.kept 1 t.judgments) t.noted),
+    subst (AppendsPrefix old new) (text_is printing t.pieces t.judgments has.prints) (whole_written old new (trace_results_text (printing_by judging) 1 t.pieces t.judgments) t.written),
+    subst (AppendsPrefix e f) (notes_are printing all t.pieces t.judgments has) (whole_written e f (trace_notes (printing_by judging) judging.kept 1 t.judgments) t.noted),
   )
 
   -- a fault came while it was told
-  pub text_left : (old new e f : Option (List ℕ)) → LeavesPieces (printing_by judging) judging.kept bytes old new e f → LeavesText (read_text name bytes) batch old new e f
+  pub text_left : (old new e f : Option (List ℕ)) → LeavesTraceTexts (printing_by judging) judging.kept bytes old new e f → LeavesText (readable_text name bytes) batch old new e f
   text_left old new e f left printing all has = (
     results_by left.0 left.1,
     of_method printing left.0 left.1 has.prints left.2,
@@ -245,7 +245,7 @@ module _ (name : Option (List ℕ)) (batch : Batch) (line : List ℕ) (lines : l
   unread_is printing prints = lines ∙ ap (λ (p : BatchPrinting). unread_text_line p name) prints
 
   pub left_out : (after : Batch) (old new e f : Option (List ℕ)) → Appends old new (last_text batch.options.printing line) → Appends e f (note_text batch.options.printing line) →
-      after.options.printing ≡ batch.options.printing → after.tally ≡ batch.tally → after.is_unread ≡ true → Judges (unread_text name) batch after old new e f
+      after.options.printing ≡ batch.options.printing → after.tally ≡ batch.tally → after.is_unread ≡ true → Judges (unreadable_text name) batch after old new e f
   left_out after old new e f written noted same tallies unread printing all has = (
     unread_results,
     (refl, refl, (refl, refl)),
@@ -260,7 +260,7 @@ module _ (name : Option (List ℕ)) (batch : Batch) (line : List ℕ) (lines : l
 
   -- a prefix of its line was written
   pub left_out_some : (old new e f : Option (List ℕ)) → AppendsPrefix old new (last_text batch.options.printing line) → AppendsPrefix e f (note_text batch.options.printing line) →
-      LeavesText (unread_text name) batch old new e f
+      LeavesText (unreadable_text name) batch old new e f
   left_out_some old new e f written noted printing all has = (
     unread_results,
     (refl, refl, (refl, refl)),
@@ -271,11 +271,11 @@ module _ (name : Option (List ℕ)) (batch : Batch) (line : List ℕ) (lines : l
 -- ---- the last line, and the notes
 
 module _ (batch : Batch) (line : List ℕ) (count : ℕ) (old new before mid between after : Option (List ℕ)) (format : BatchFormat) (formats : format ≡ last_format batch.options.printing)
-    (lines : line ≡ total_text format batch.options.printing.method batch.tally) (judged : (judgments : List Judgment) → Counts batch.tally judgments → count ≡ count_judged judgments) where
+    (lines : line ≡ batch_total_text format batch.options.printing.method batch.tally) (judged : (judgments : List Judgment) → Counts batch.tally judgments → count ≡ count_judged judgments) where
   line_is : (printing : BatchPrinting) (all : List TextResults) → HasJudged batch printing all → line ≡ last_line printing (all_judgments all)
   line_is printing all has =
-      lines ∙ ap (λ f. total_text f batch.options.printing.method batch.tally) (formats ∙ ap last_format has.prints)
-      ∙ ap (λ (p : BatchPrinting). total_text (last_format printing) p.method batch.tally) has.prints ∙ total_by_counts (last_format printing) printing.method batch.tally (all_judgments all) has.counts
+      lines ∙ ap (λ f. batch_total_text f batch.options.printing.method batch.tally) (formats ∙ ap last_format has.prints)
+      ∙ ap (λ (p : BatchPrinting). batch_total_text (last_format printing) p.method batch.tally) has.prints ∙ total_by_counts (last_format printing) printing.method batch.tally (all_judgments all) has.counts
 
   -- the notes: the last line where it is one, that too few were judged, and that a text can't be read
   abbrev note : List ℕ
@@ -285,12 +285,12 @@ module _ (batch : Batch) (line : List ℕ) (count : ℕ) (old new before mid bet
   few = few_text batch.options.printing.required count
 
   abbrev fault : List ℕ
-  fault = fault_text batch.is_unread
+  fault = read_fault_text batch.is_unread
 
   end_notes_are : (printing : BatchPrinting) (all : List TextResults) → HasJudged batch printing all → note ++ (few ++ fault) ≡ end_notes printing all
   end_notes_are printing all has =
       ap₂ (λ (a b : List ℕ). a ++ b) (ap₂ note_text has.prints (line_is printing all has))
-      (ap₂ (λ (a b : List ℕ). a ++ b) (ap (λ (p : BatchPrinting). few_text p.required count) has.prints ∙ ap (few_text printing.required) (judged (all_judgments all) has.counts)) (ap fault_text has.unread))
+      (ap₂ (λ (a b : List ℕ). a ++ b) (ap (λ (p : BatchPrinting). few_text p.required count) has.prints ∙ ap (few_text printing.required) (judged (all_judgments all) has.counts)) (ap read_fault_text has.unread))
 
   pub end_whole : (verdict : Answer) → Appends old new (last_text batch.options.printing line) → Appends before mid note → Appends mid between few → Appends between after fault →
       ((judgments : List Judgment) → Counts batch.tally judgments → verdict ≡ verdict_with batch.is_unread batch.options.printing.required judgments) → EndsBatch batch old new before after verdict

@@ -18,7 +18,7 @@ use Rattle.trace_reports.specs.Verdicts.{verdict_line}
 
 -- ---- in words
 
--- the end of a line: what the piece's report says, without certificate, or its decision, without evidence
+-- the end of a line: what the trace text's report says, without certificate, or its decision, without evidence
 abbrev pub line_end_of : Judgment → List ℕ
 line_end_of NoViolation = verdict_line false
 line_end_of (Violation body) = verdict_line true
@@ -156,10 +156,10 @@ total_suite words =
     codes "<testsuite name=\"tsobench batch\" tests=\"0\" failures=\"0\" errors=\"0\" skipped=\"0\"><system-out>" ++ words ++ codes "</system-out></testsuite>\n</testsuites>\n"
 
 -- in each format
-abbrev pub total_text : BatchFormat → BatchMethod → Tally → List ℕ
-total_text Words method tally = total_words method tally ++ codes "\n"
-total_text Json method tally = total_json method tally
-total_text Junit method tally = total_suite (total_words method tally)
+abbrev pub batch_total_text : BatchFormat → BatchMethod → Tally → List ℕ
+batch_total_text Words method tally = total_words method tally ++ codes "\n"
+batch_total_text Json method tally = total_json method tally
+batch_total_text Junit method tally = total_suite (total_words method tally)
 
 -- the numbers of these judgments
 abbrev pub tally_of : List Judgment → Tally
@@ -173,7 +173,7 @@ tally_of judgments = record {
 
 -- the last line after these judgments
 abbrev pub total_line : BatchFormat → BatchMethod → List Judgment → List ℕ
-total_line format method judgments = total_text format method (tally_of judgments)
+total_line format method judgments = batch_total_text format method (tally_of judgments)
 
 -- ---- a text that can't be read
 
@@ -192,8 +192,8 @@ unread_line Json label = unread_json label
 unread_line Junit label = unread_suite label
 
 -- the last note, where a text can't be read
-abbrev pub fault_text : Bool → List ℕ
-fault_text is_unread = if is_unread then codes "FAULT Read\n" else []
+abbrev pub read_fault_text : Bool → List ℕ
+read_fault_text is_unread = if is_unread then codes "FAULT Read\n" else []
 
 -- ---- which traces are printed
 

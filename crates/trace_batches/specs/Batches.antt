@@ -1,4 +1,4 @@
--- The texts of a batch of several texts: a line for each of their pieces and a last line, or those of their pieces that are violations.
+-- The texts of a batch of several texts: a line for each of their trace texts and a last line, or those of their trace texts that are violations.
 use Rattle.std.specs.Prelude.{◌≡◌, ◌+◌, ℕ, suc, Bool, true, false, List, [], ◌∷◌, ◌++◌, Option, Some, None, length, map, if◌then◌else◌}
 use Rattle.std.specs.Io.KnownBytes.{Appends}
 use Rattle.std.specs.List.{count_by, list_any}
@@ -8,14 +8,14 @@ use Rattle.request_options.specs.declared.batches.BatchPrinting.{BatchPrinting}
 use Rattle.trace_batches.specs.declared.begun.Batch.{Batch}
 use Rattle.trace_batches.specs.declared.judgments.Judgment.{Judgment}
 use Rattle.trace_batches.specs.declared.judgments.Judgment.TheVariants as judged
-use Rattle.trace_batches.specs.declared.questions.Question.{Question}
+use Rattle.trace_batches.specs.declared.questions.BatchQuestion.{BatchQuestion}
 use Rattle.trace_reports.specs.declared.answers.Answer.{Answer}
 use Rattle.trace_reports.specs.declared.answers.Answer.TheVariants.{Clear, Violation, Undecided, Refused, Unread}
 use Rattle.trace_batches.specs.declared.tallies.Tally.{Tally}
-use Rattle.trace_batches.specs.BatchLines.{are_too_few, fault_text, few_text, head_of, kept_line, total_line, trace_line, unread_line}
+use Rattle.trace_batches.specs.BatchLines.{are_too_few, few_text, head_of, kept_line, read_fault_text, total_line, trace_line, unread_line}
 use Rattle.trace_batches.specs.BatchNames.{text_label}
 use Rattle.trace_batches.specs.Judgments.{AreJudgments, asking, is_judged, says_consistent, says_refused, says_undecided, says_violation}
-use Rattle.trace_streams.specs.Pieces.{ArePieces}
+use Rattle.trace_streams.specs.TraceTexts.{AreTraceTexts}
 use Rattle.text_streams.specs.declared.faults.Fault.{Fault}
 use Rattle.text_streams.specs.declared.faults.Fault.TheVariants.{Missing}
 use Rattle.text_streams.specs.Streams.{AppendsPrefix}
@@ -30,14 +30,14 @@ has_bodies Json = false
 has_bodies Junit = true
 
 -- what is asked of each trace of a batch that is printed so
-abbrev pub asked : BatchPrinting → Question
+abbrev pub asked : BatchPrinting → BatchQuestion
 asked printing = asking printing.method (if printing.violations then false else has_bodies printing.format)
 
 -- ---- the results
 
--- The results of a stream: its pieces, in order, and what is said of each.
-pub record AreResults (question : Question) (stream : List ℕ) (pieces : List (List ℕ)) (judgments : List Judgment) : Type 0 where
-  pub are_pieces : ArePieces stream pieces
+-- The results of a stream: its trace texts, in order, and what is said of each.
+pub record AreResults (question : BatchQuestion) (stream : List ℕ) (pieces : List (List ℕ)) (judgments : List Judgment) : Type 0 where
+  pub are_trace_texts : AreTraceTexts stream pieces
   pub are_judgments : AreJudgments question pieces judgments
 
 -- a text of a batch: its name where lines have one, its bytes where these are known, and whether it can't be read, as where its file can't be opened
@@ -47,38 +47,38 @@ pub record BatchText : Type 0 where
   pub is_unread : Bool
 
 -- a text that is read
-abbrev pub read_text : Option (List ℕ) → Option (List ℕ) → BatchText
-read_text name bytes = record { name = name; bytes = bytes; is_unread = false }
+abbrev pub readable_text : Option (List ℕ) → Option (List ℕ) → BatchText
+readable_text name bytes = record { name = name; bytes = bytes; is_unread = false }
 
 -- a text that can't be read
-abbrev pub unread_text : Option (List ℕ) → BatchText
-unread_text name = record { name = name; bytes = None; is_unread = true }
+abbrev pub unreadable_text : Option (List ℕ) → BatchText
+unreadable_text name = record { name = name; bytes = None; is_unread = true }
 
--- what is found of a text: whether it can't be read, its pieces, in order, and what is said of each, under its name
+-- what is found of a text: whether it can't be read, its trace texts, in order, and what is said of each, under its name
 pub record TextResults : Type 0 where
   pub name : Option (List ℕ)
   pub is_unread : Bool
   pub pieces : List (List ℕ)
   pub judgments : List Judgment
 
--- These are the pieces of a text, and what is said of each. One that can't be read has none.
-abbrev pub AreFound : Question → Bool → Option (List ℕ) → List (List ℕ) → List Judgment → Type 0
+-- These are the trace texts of a text, and what is said of each. One that can't be read has none.
+abbrev pub AreFound : BatchQuestion → Bool → Option (List ℕ) → List (List ℕ) → List Judgment → Type 0
 AreFound question true bytes pieces judgments = (pieces ≡ []) × (judgments ≡ [])
 AreFound question false bytes pieces judgments = ReadsAs bytes (λ stream. AreResults question stream pieces judgments)
 
 -- these are the results of the text
-abbrev pub AreResultsOf : Question → BatchText → TextResults → Type 0
+abbrev pub AreResultsOf : BatchQuestion → BatchText → TextResults → Type 0
 AreResultsOf question text results =
     (results.name ≡ text.name) × (results.is_unread ≡ text.is_unread) × AreFound question text.is_unread text.bytes results.pieces results.judgments
 
 -- these are the results of the texts, one each, in order
-abbrev pub AreResultsOfAll : Question → List BatchText → List TextResults → Type 0
+abbrev pub AreResultsOfAll : BatchQuestion → List BatchText → List TextResults → Type 0
 AreResultsOfAll question [] [] = Unit {0}
 AreResultsOfAll question [] (results ∷ all) = ⊥
 AreResultsOfAll question (text ∷ texts) [] = ⊥
 AreResultsOfAll question (text ∷ texts) (results ∷ all) = AreResultsOf question text results × AreResultsOfAll question texts all
 
--- what is said of all pieces of all texts
+-- what is said of all trace texts of all texts
 abbrev pub all_judgments : List TextResults → List Judgment
 all_judgments [] = []
 all_judgments (results ∷ all) = results.judgments ++ all_judgments all
@@ -114,8 +114,8 @@ verdict_of_all required all = verdict_with (any_unread all) required (all_judgme
 -- ---- the head, and what is a note
 
 -- The head precedes lines, and no texts of violations.
-abbrev pub head_text : BatchPrinting → List ℕ
-head_text printing = if printing.violations then [] else head_of printing.format
+abbrev pub batch_head_text : BatchPrinting → List ℕ
+batch_head_text printing = if printing.violations then [] else head_of printing.format
 
 -- a note is no document: in its place it is in words
 abbrev pub note_format : BatchFormat → BatchFormat
@@ -135,7 +135,7 @@ note_text printing line = if printing.violations then line else []
 
 -- ---- what is printed of a text
 
--- how pieces of a text are printed, and its label
+-- how trace texts of a text are printed, and its label
 pub record TextPrinting : Type 0 where
   pub printing : BatchPrinting
   pub label : List ℕ
@@ -149,37 +149,37 @@ is_left_out quiet _ = false
 abbrev pub written_line : TextPrinting → ℕ → Judgment → List ℕ
 written_line of number judgment = if is_left_out of.printing.quiet judgment then [] else trace_line of.printing.format of.label number judgment
 
--- the piece as it came where it is a violation, and nothing of others
+-- the trace text as it came where it is a violation, and nothing of others
 abbrev pub violating_text : List ℕ → Judgment → List ℕ
 violating_text piece (judged.Violation body) = piece
 violating_text piece _ = []
 
--- what is printed of the piece of this number: its text where it is a violation, or its line
-abbrev pub piece_text : TextPrinting → ℕ → List ℕ → Judgment → List ℕ
-piece_text of number piece judgment = if of.printing.violations then violating_text piece judgment else written_line of number judgment
+-- what is printed of the trace text of this number: its text where it is a violation, or its line
+abbrev pub trace_result_text : TextPrinting → ℕ → List ℕ → Judgment → List ℕ
+trace_result_text of number piece judgment = if of.printing.violations then violating_text piece judgment else written_line of number judgment
 
--- what is printed of pieces, the first of which has this number, by their judgments
-abbrev pub pieces_text : TextPrinting → ℕ → List (List ℕ) → List Judgment → List ℕ
-pieces_text of number (piece ∷ pieces) (judgment ∷ judgments) = piece_text of number piece judgment ++ pieces_text of (suc number) pieces judgments
-pieces_text of number _ _ = []
+-- what is printed of trace texts, the first of which has this number, by their judgments
+abbrev pub trace_results_text : TextPrinting → ℕ → List (List ℕ) → List Judgment → List ℕ
+trace_results_text of number (piece ∷ pieces) (judgment ∷ judgments) = trace_result_text of number piece judgment ++ trace_results_text of (suc number) pieces judgments
+trace_results_text of number _ _ = []
 
--- how many texts of violations are printed up to a piece of which this is said, where there were so many before
+-- how many texts of violations are printed up to a trace text of which this is said, where there were so many before
 abbrev pub kept_with : ℕ → Judgment → ℕ
 kept_with kept judgment = if says_violation judgment then kept + 1 else kept
 
--- of a piece that is printed it is noted which it is, and nothing of others
+-- of a trace text that is printed it is noted which it is, and nothing of others
 abbrev pub kept_note : BatchFormat → List ℕ → ℕ → ℕ → Judgment → List ℕ
 kept_note format label kept number (judged.Violation body) = kept_line format label kept number
 kept_note format label kept number _ = []
 
--- the note on the piece of this number, beside texts of violations
-abbrev pub piece_note : TextPrinting → ℕ → ℕ → Judgment → List ℕ
-piece_note of kept number judgment = if of.printing.violations then kept_note (last_format of.printing) of.label kept number judgment else []
+-- the note on the trace text of this number, beside texts of violations
+abbrev pub trace_note : TextPrinting → ℕ → ℕ → Judgment → List ℕ
+trace_note of kept number judgment = if of.printing.violations then kept_note (last_format of.printing) of.label kept number judgment else []
 
--- the notes on pieces, the first of which has this number, by their judgments, where so many texts of violations were printed before
-abbrev pub pieces_notes : TextPrinting → ℕ → ℕ → List Judgment → List ℕ
-pieces_notes of kept number [] = []
-pieces_notes of kept number (judgment ∷ judgments) = piece_note of (kept_with kept judgment) number judgment ++ pieces_notes of (kept_with kept judgment) (suc number) judgments
+-- the notes on trace texts, the first of which has this number, by their judgments, where so many texts of violations were printed before
+abbrev pub trace_notes : TextPrinting → ℕ → ℕ → List Judgment → List ℕ
+trace_notes of kept number [] = []
+trace_notes of kept number (judgment ∷ judgments) = trace_note of (kept_with kept judgment) number judgment ++ trace_notes of (kept_with kept judgment) (suc number) judgments
 
 -- how a text of this name is printed
 abbrev pub under_name : BatchPrinting → Option (List ℕ) → TextPrinting
@@ -189,17 +189,17 @@ under_name printing name = record { printing = printing; label = text_label (las
 abbrev pub unread_text_line : BatchPrinting → Option (List ℕ) → List ℕ
 unread_text_line printing name = unread_line (last_format printing) (text_label (last_format printing) name)
 
--- what is printed of a text, whose pieces are numbered from 1
+-- what is printed of a text, whose trace texts are numbered from 1
 abbrev pub results_text : BatchPrinting → TextResults → List ℕ
 results_text printing results =
     if results.is_unread then last_text printing (unread_text_line printing results.name)
-    else pieces_text (under_name printing results.name) 1 results.pieces results.judgments
+    else trace_results_text (under_name printing results.name) 1 results.pieces results.judgments
 
 -- the notes on a text, where so many texts of violations were printed before
 abbrev pub results_notes : BatchPrinting → ℕ → TextResults → List ℕ
 results_notes printing kept results =
     if results.is_unread then note_text printing (unread_text_line printing results.name)
-    else pieces_notes (under_name printing results.name) kept 1 results.judgments
+    else trace_notes (under_name printing results.name) kept 1 results.judgments
 
 -- ---- what is printed of all
 
@@ -219,7 +219,7 @@ last_line printing judgments = total_line (last_format printing) printing.method
 -- the notes at the end: the last line where it is one, that too few were judged where it is so, and that a text can't be read where there is one
 abbrev pub end_notes : BatchPrinting → List TextResults → List ℕ
 end_notes printing all =
-    note_text printing (last_line printing (all_judgments all)) ++ (few_text printing.required (count_judged (all_judgments all)) ++ fault_text (any_unread all))
+    note_text printing (last_line printing (all_judgments all)) ++ (few_text printing.required (count_judged (all_judgments all)) ++ read_fault_text (any_unread all))
 
 -- all notes: those on texts, and those at the end
 abbrev pub notes_text : BatchPrinting → List TextResults → List ℕ
@@ -229,7 +229,7 @@ notes_text printing all = results_notes_of_all printing 0 all ++ end_notes print
 pub record IsBatch (printing : BatchPrinting) (texts : List BatchText) (text notes : List ℕ) (verdict : Answer) : Type 0 where
   pub all : List TextResults
   pub are_results : AreResultsOfAll (asked printing) texts all
-  pub whole : text ≡ head_text printing ++ (results_texts printing all ++ last_text printing (last_line printing (all_judgments all)))
+  pub whole : text ≡ batch_head_text printing ++ (results_texts printing all ++ last_text printing (last_line printing (all_judgments all)))
   pub noted : notes ≡ notes_text printing all
   pub says : verdict ≡ verdict_of_all printing.required all
 
@@ -247,11 +247,11 @@ LeavesBatch printing texts old new before after =
 
 -- a text without a name, alone
 abbrev pub one_text : Option (List ℕ) → List BatchText
-one_text bytes = read_text None bytes ∷ []
+one_text bytes = readable_text None bytes ∷ []
 
 -- texts that are known, each with its name where lines have one
 abbrev pub known_texts : List (Option (List ℕ) × List ℕ) → List BatchText
-known_texts streams = map (λ stream. read_text stream.0 (Some stream.1)) streams
+known_texts streams = map (λ stream. readable_text stream.0 (Some stream.1)) streams
 
 -- the faults that a batch has
 abbrev pub IsBatchFault : Fault → Type 0
@@ -305,5 +305,5 @@ pub record HasWritten (batch : Batch) (printing : BatchPrinting) (texts : List B
   pub all : List TextResults
   pub are_results : AreResultsOfAll (asked printing) texts all
   pub judged : HasJudged batch printing all
-  pub written : Appends old new (head_text printing ++ results_texts printing all)
+  pub written : Appends old new (batch_head_text printing ++ results_texts printing all)
   pub noted : Appends before after (results_notes_of_all printing 0 all)

@@ -1,12 +1,13 @@
-//! Judges one text of a batch: it is read and cut, and its pieces are judged and written.
+//! Judges one text of a batch: it is read and cut, and its trace texts are judged and written.
 ghost use Rattle.std.specs.Prelude.{◌≡◌, ◌≤◌, ◌+◌, ◌∷◌, ◌++◌, [], List, ℕ, Option, map, take, IfSome, IfOk, IfErr, OnOk, OnErr};
 ghost use Rattle.std.specs.Io.KnownBytes.{Appends, Consumes, IsAtEnd, prepend_known};
-ghost use Rattle.trace_streams.specs.Cutters.{IsAt, rows};
-ghost use Rattle.trace_streams.specs.Pieces.{last_piece};
+ghost use Rattle.tso_ops.specs.Values.{rows};
+ghost use Rattle.trace_streams.specs.StreamSplitters.{IsAt};
+ghost use Rattle.trace_streams.specs.TraceTexts.{last_trace_text};
 ghost use Rattle.text_streams.specs.Streams.{AppendsPrefix};
-ghost use Rattle.trace_batches.specs.Batches.{asked, Counts, IsBatchFault, kept_note, kept_with, last_format, piece_note, piece_text, violating_text};
+ghost use Rattle.trace_batches.specs.Batches.{asked, Counts, IsBatchFault, kept_note, kept_with, last_format, trace_note, trace_result_text, violating_text};
 ghost use Rattle.trace_batches.specs.BatchLines.{kept_line};
-ghost use Rattle.trace_batches.specs.Internal.Progress.{AreJudged, LeavesPieces, Stands, Told, WroteAll, WroteSome, printing_by};
+ghost use Rattle.trace_batches.specs.Internal.Progress.{AreJudged, HasWrittenAll, HasWrittenSoFar, LeavesTraceTexts, WroteAll, WroteSome, printing_by};
 ghost use Rattle.trace_batches.specs.declared.judgments.Judgment.{Judgment};
 
 use crate::jobs::{Job, judge_all};
@@ -21,24 +22,24 @@ use std::io::{Read, Write};
 use std::sync::Wait;
 use std::thread::Threads;
 use text_streams::{Fault, read_some, write_flushed};
-use trace_streams::{CHUNK, Cutter};
+use trace_streams::{CHUNK, StreamSplitter};
 use tso_ops::OutOfMemory;
 use tso_text::MAX_TEXT_BYTES;
 
-/// How many pieces for each worker are judged at most before their lines are written. Threads are started for each group, so
-/// a group has to be large beside their start.
-const PIECES_PER_WORKER: usize = 256;
+/// How many trace texts for each worker are judged at most before their lines are written. Threads are started for each group,
+/// so a group has to be large beside their start.
+const TRACE_TEXTS_PER_WORKER: usize = 256;
 
 /// How a batch is judged and printed.
 #[derive(Clone, Copy, Debug, PartialEq, Eq)]
 pub struct BatchOptions {
-    /// How many threads judge pieces side by side at most.
+    /// How many threads judge trace texts side by side at most.
     pub workers: usize,
     /// What is printed.
     pub printing: BatchPrinting,
 }
 
-/// How the pieces of a text are judged and printed.
+/// How the trace texts of a text are judged and printed.
 #[derive(Clone, Copy)]
 pub(crate) struct TextJudging<'a> {
     pub(crate) alloc: Global,
@@ -49,15 +50,15 @@ pub(crate) struct TextJudging<'a> {
     pub(crate) kept: u64,
 }
 
-/// The cutter and the tally of a text.
+/// The splitter and the tally of a text.
 #[derive(Drop)]
 struct Progress {
-    cutter: Cutter,
+    splitter: StreamSplitter,
     tally: Tally,
 }
 
-/// Judges a stream, and writes what is printed of its pieces, numbered from 1, and the notes on them: how many there were.
-pub(crate) fn judge_pieces<H: Threads + Wait + Sync, M: Meter, R: Read, W: Write, E: Write>(
+/// Judges a stream, and writes what is printed of its trace texts, numbered from 1, and the notes on them: how many there were.
+pub(crate) fn judge_trace_texts<H: Threads + Wait + Sync, M: Meter, R: Read, W: Write, E: Write>(
     rt: &H,
     judging: &TextJudging<'_>,
     meter: &M,
@@ -66,22 +67,25 @@ pub(crate) fn judge_pieces<H: Threads + Wait + Sync, M: Meter, R: Read, W: Write
     errors: &mut E,
 ) -> Result<Tally, Fault>
     requires { 1 ≤ judging.now.options.workers }
-    ensures told { IfOk result (Told (printing_by judging.now) judging.now.kept (R.remaining reader.old) (W.contents writer.old) (W.contents writer.new) (E.contents errors.old) (E.contents errors.new)) }
+    ensures told { IfOk result (HasWrittenAll (printing_by judging.now) judging.now.kept (R.remaining reader.old) (W.contents writer.old) (W.contents writer.new) (E.contents errors.old) (E.contents errors.new)) }
     ensures taken { IfOk result (λ _. IfSome (R.remaining reader.old) (λ all. Consumes (R.remaining reader.old) (R.remaining reader.new) all)) }
-    ensures left { OnErr result (LeavesPieces (printing_by judging.now) judging.now.kept (R.remaining reader.old) (W.contents writer.old) (W.contents writer.new) (E.contents errors.old) (E.contents errors.new)) }
+    ensures left { OnErr result (LeavesTraceTexts (printing_by judging.now) judging.now.kept (R.remaining reader.old) (W.contents writer.old) (W.contents writer.new) (E.contents errors.old) (E.contents errors.new)) }
     ensures fault { IfErr result IsBatchFault }
 {
-    let Progress { cutter, mut tally } = read_pieces(rt, judging, meter, reader, writer, errors)?;
-    let pieces = last_pieces(judging.alloc, cutter)?;
+    let Progress {
+        splitter,
+        mut tally,
+    } = read_trace_texts(rt, judging, meter, reader, writer, errors)?;
+    let pieces = last_trace_texts(judging.alloc, splitter)?;
     let count = pieces.len() as u64;
     tell(rt, judging, pieces, &mut tally, writer, errors)?;
     meter.advance(count);
     Ok(tally)
 }
 
-/// Reads a stream to its end, and writes what is printed of the pieces that end in it, and the notes on them. The meter hears how
-/// many there were before more is read.
-fn read_pieces<H: Threads + Wait + Sync, M: Meter, R: Read, W: Write, E: Write>(
+/// Reads a stream to its end, and writes what is printed of the trace texts that end in it, and the notes on them. The meter
+/// hears how many there were before more is read.
+fn read_trace_texts<H: Threads + Wait + Sync, M: Meter, R: Read, W: Write, E: Write>(
     rt: &H,
     judging: &TextJudging<'_>,
     meter: &M,
@@ -90,13 +94,13 @@ fn read_pieces<H: Threads + Wait + Sync, M: Meter, R: Read, W: Write, E: Write>(
     errors: &mut E,
 ) -> Result<Progress, Fault>
     requires { 1 ≤ judging.now.options.workers }
-    ensures stands { IfOk result (λ p. Stands (printing_by judging.now) judging.now.kept (R.remaining reader.old) (R.remaining reader.new) (W.contents writer.old) (W.contents writer.new) (E.contents errors.old) (E.contents errors.new) p.cutter p.tally) }
+    ensures stands { IfOk result (λ p. HasWrittenSoFar (printing_by judging.now) judging.now.kept (R.remaining reader.old) (R.remaining reader.new) (W.contents writer.old) (W.contents writer.new) (E.contents errors.old) (E.contents errors.new) p.splitter p.tally) }
     ensures end { OnOk result (IsAtEnd (R.remaining reader.new)) }
-    ensures left { OnErr result (LeavesPieces (printing_by judging.now) judging.now.kept (R.remaining reader.old) (W.contents writer.old) (W.contents writer.new) (E.contents errors.old) (E.contents errors.new)) }
+    ensures left { OnErr result (LeavesTraceTexts (printing_by judging.now) judging.now.kept (R.remaining reader.old) (W.contents writer.old) (W.contents writer.new) (E.contents errors.old) (E.contents errors.new)) }
     ensures fault { IfErr result IsBatchFault }
 {
     let mut progress = Progress {
-        cutter: Cutter::new(judging.alloc, MAX_TEXT_BYTES + 1),
+        splitter: StreamSplitter::new(judging.alloc, MAX_TEXT_BYTES + 1),
         tally: Tally::new(),
     };
     let mut buffer = vec![in judging.alloc; 0u8; CHUNK]?;
@@ -113,7 +117,7 @@ fn read_pieces<H: Threads + Wait + Sync, M: Meter, R: Read, W: Write, E: Write>(
     unreachable!()
 }
 
-/// Cuts the next bytes of a stream, and writes what is printed of the pieces that end in them, and the notes on them.
+/// Cuts the next bytes of a stream, and writes what is printed of the trace texts that end in them, and the notes on them.
 fn tell_chunk<H: Threads + Wait + Sync, W: Write, E: Write>(
     rt: &H,
     judging: &TextJudging<'_>,
@@ -123,32 +127,35 @@ fn tell_chunk<H: Threads + Wait + Sync, W: Write, E: Write>(
     errors: &mut E,
 ) -> Result<(), Fault>
     requires { 1 ≤ judging.now.options.workers }
-    ensures stands { OnOk result ((remaining now old before : Option (List ℕ)) → Stands (printing_by judging.now) judging.now.kept remaining (prepend_known chunk.now now) old (W.contents writer.old) before (E.contents errors.old) progress.old.cutter progress.old.tally → Stands (printing_by judging.now) judging.now.kept remaining now old (W.contents writer.new) before (E.contents errors.new) progress.new.cutter progress.new.tally) }
-    ensures left { OnErr result ((remaining now old before : Option (List ℕ)) → Stands (printing_by judging.now) judging.now.kept remaining (prepend_known chunk.now now) old (W.contents writer.old) before (E.contents errors.old) progress.old.cutter progress.old.tally → LeavesPieces (printing_by judging.now) judging.now.kept remaining old (W.contents writer.new) before (E.contents errors.new)) }
+    ensures stands { OnOk result ((remaining now old before : Option (List ℕ)) → HasWrittenSoFar (printing_by judging.now) judging.now.kept remaining (prepend_known chunk.now now) old (W.contents writer.old) before (E.contents errors.old) progress.old.splitter progress.old.tally → HasWrittenSoFar (printing_by judging.now) judging.now.kept remaining now old (W.contents writer.new) before (E.contents errors.new) progress.new.splitter progress.new.tally) }
+    ensures left { OnErr result ((remaining now old before : Option (List ℕ)) → HasWrittenSoFar (printing_by judging.now) judging.now.kept remaining (prepend_known chunk.now now) old (W.contents writer.old) before (E.contents errors.old) progress.old.splitter progress.old.tally → LeavesTraceTexts (printing_by judging.now) judging.now.kept remaining old (W.contents writer.new) before (E.contents errors.new)) }
     ensures fault { IfErr result IsBatchFault }
 {
-    let most = judging.options.workers.saturating_mul(PIECES_PER_WORKER);
+    let most = judging
+        .options
+        .workers
+        .saturating_mul(TRACE_TEXTS_PER_WORKER);
     let mut from = 0;
     while from < chunk.len() {
-        let (pieces, count) = progress.cutter.cut(&chunk[from..], most)?;
+        let (pieces, count) = progress.splitter.cut(&chunk[from..], most)?;
         tell(rt, judging, pieces, &mut progress.tally, writer, errors)?;
         from += count;
     }
     Ok(())
 }
 
-/// The last piece, if there is one.
-fn last_pieces(alloc: Global, cutter: Cutter) -> Result<Vec<Vec<u8>>, OutOfMemory>
-    ensures { IfOk result (λ pieces. (rest : List ℕ) → IsAt cutter rest → rows pieces.items ≡ map (λ piece. take cutter.limit piece) (last_piece rest)) }
+/// The last trace text, if there is one.
+fn last_trace_texts(alloc: Global, splitter: StreamSplitter) -> Result<Vec<Vec<u8>>, OutOfMemory>
+    ensures { IfOk result (λ pieces. (rest : List ℕ) → IsAt splitter rest → rows pieces.items ≡ map (λ piece. take splitter.limit piece) (last_trace_text rest)) }
 {
     let mut pieces = Vec::new(alloc);
-    if let Some(piece) = cutter.last() {
+    if let Some(piece) = splitter.last() {
         pieces.push(piece)?;
     }
     Ok(pieces)
 }
 
-/// Judges pieces side by side, and writes what is printed of them in order, and the notes on them.
+/// Judges trace texts side by side, and writes what is printed of them in order, and the notes on them.
 fn tell<H: Threads + Wait + Sync, W: Write, E: Write>(
     rt: &H,
     judging: &TextJudging<'_>,
@@ -180,15 +187,15 @@ fn write_jobs<W: Write, E: Write>(
 {
     for job in jobs {
         match &job.outcome {
-            Ok(judgment) => write_piece(judging, &job.piece, judgment, tally, writer, errors)?,
+            Ok(judgment) => write_result(judging, &job.piece, judgment, tally, writer, errors)?,
             Err(fault) => return Err(*fault),
         }
     }
     Ok(())
 }
 
-/// Counts what is said of a piece, and writes what is printed of it, and then the note on it.
-fn write_piece<W: Write, E: Write>(
+/// Counts what is said of a trace text, and writes what is printed of it, and then the note on it.
+fn write_result<W: Write, E: Write>(
     judging: &TextJudging<'_>,
     piece: &[u8],
     judgment: &Judgment,
@@ -199,10 +206,10 @@ fn write_piece<W: Write, E: Write>(
     ensures counted { OnOk result ((judgments : List Judgment) → Counts tally.old judgments → Counts tally.new (judgments ++ judgment.now ∷ [])) }
     ensures traces { OnOk result (tally.new.traces ≡ tally.old.traces + 1) }
     ensures violations { OnOk result (tally.new.violations ≡ kept_with tally.old.violations judgment.now) }
-    ensures whole { OnOk result (Appends (W.contents writer.old) (W.contents writer.new) (piece_text (printing_by judging.now) (tally.old.traces + 1) piece.now judgment.now)) }
-    ensures noted { OnOk result (Appends (E.contents errors.old) (E.contents errors.new) (piece_note (printing_by judging.now) (judging.now.kept + kept_with tally.old.violations judgment.now) (tally.old.traces + 1) judgment.now)) }
-    ensures prefix { AppendsPrefix (W.contents writer.old) (W.contents writer.new) (piece_text (printing_by judging.now) (tally.old.traces + 1) piece.now judgment.now) }
-    ensures some { AppendsPrefix (E.contents errors.old) (E.contents errors.new) (piece_note (printing_by judging.now) (judging.now.kept + kept_with tally.old.violations judgment.now) (tally.old.traces + 1) judgment.now) }
+    ensures whole { OnOk result (Appends (W.contents writer.old) (W.contents writer.new) (trace_result_text (printing_by judging.now) (tally.old.traces + 1) piece.now judgment.now)) }
+    ensures noted { OnOk result (Appends (E.contents errors.old) (E.contents errors.new) (trace_note (printing_by judging.now) (judging.now.kept + kept_with tally.old.violations judgment.now) (tally.old.traces + 1) judgment.now)) }
+    ensures prefix { AppendsPrefix (W.contents writer.old) (W.contents writer.new) (trace_result_text (printing_by judging.now) (tally.old.traces + 1) piece.now judgment.now) }
+    ensures some { AppendsPrefix (E.contents errors.old) (E.contents errors.new) (trace_note (printing_by judging.now) (judging.now.kept + kept_with tally.old.violations judgment.now) (tally.old.traces + 1) judgment.now) }
     ensures fault { IfErr result IsBatchFault }
 {
     tally.count(judgment)?;
@@ -213,7 +220,7 @@ fn write_piece<W: Write, E: Write>(
     write_flushed(writer, line.as_bytes())
 }
 
-/// Writes a piece as it came where it is a violation, and then the note on it; of others nothing.
+/// Writes a trace text as it came where it is a violation, and then the note on it; of others nothing.
 fn write_violating<W: Write, E: Write>(
     judging: &TextJudging<'_>,
     piece: &[u8],

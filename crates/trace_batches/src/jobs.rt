@@ -1,12 +1,12 @@
-//! Pieces of a batch, judged side by side.
+//! Trace texts of a batch, judged side by side.
 ghost use Rattle.std.specs.Prelude.{◌≡◌, ◌≤◌, IfOk, map};
+ghost use Rattle.tso_ops.specs.Values.{rows};
 ghost use Rattle.trace_batches.specs.Batches.{asked};
-ghost use Rattle.trace_streams.specs.Cutters.{rows};
 ghost use Rattle.trace_batches.specs.Internal.Progress.{AreJudged, IsJobOf};
 
 use crate::batches::BatchOptions;
-use crate::judgments::{Judgment, judge_piece};
-use crate::questions::{Question, asked};
+use crate::judgments::{Judgment, judge_trace_text};
+use crate::questions::{BatchQuestion, asked};
 use std::alloc::Global;
 use std::sync::Wait;
 use std::thread;
@@ -14,12 +14,12 @@ use std::thread::Threads;
 use text_streams::Fault;
 use tso_ops::OutOfMemory;
 
-/// A piece of a stream, and what is said of it.
+/// A trace text of a stream, and what is said of it.
 #[derive(Drop)]
 pub(crate) struct Job {
-    /// The first bytes of the piece.
+    /// The first bytes of the trace text.
     pub(crate) piece: Vec<u8>,
-    /// What is said of it, or why nothing is: NoThread as long as the piece wasn't judged.
+    /// What is said of it, or why nothing is: NoThread as long as the trace text wasn't judged.
     pub(crate) outcome: Result<Judgment, Fault>,
 }
 
@@ -33,16 +33,16 @@ impl Job {
         }
     }
 
-    /// Judges the piece with one worker.
-    fn judge<H: Threads + Wait>(&mut self, rt: &H, alloc: Global, question: Question)
+    /// Judges the trace text with one worker.
+    fn judge<H: Threads + Wait>(&mut self, rt: &H, alloc: Global, question: BatchQuestion)
         ensures { IsJobOf question self.old.piece.items self.new }
     {
-        self.outcome = judge_piece(rt, alloc, &self.piece, question);
+        self.outcome = judge_trace_text(rt, alloc, &self.piece, question);
     }
 }
 
-/// Judges these pieces by as many threads at most as the options say, each piece with one worker: a job for each, in order.
-/// OutOfMemory where an allocation for the jobs was refused.
+/// Judges these trace texts by as many threads at most as the options say, each trace text with one worker: a job for each, in
+/// order. OutOfMemory where an allocation for the jobs was refused.
 pub(crate) fn judge_all<H: Threads + Wait + Sync>(
     rt: &H,
     alloc: Global,
@@ -57,7 +57,7 @@ pub(crate) fn judge_all<H: Threads + Wait + Sync>(
     Ok(jobs)
 }
 
-/// A job for each piece, in order.
+/// A job for each trace text, in order.
 fn jobs_of(alloc: Global, pieces: Vec<Vec<u8>>) -> Result<Vec<Job>, OutOfMemory>
     ensures { IfOk result (λ jobs. jobs.items ≡ map (λ piece. record { piece = piece; outcome = Err Fault.NoThread }) pieces.items) }
 {

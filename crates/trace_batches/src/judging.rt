@@ -2,12 +2,12 @@
 ghost use Rattle.std.specs.Prelude.{◌≡◌, ◌≤◌, ◌∷◌, [], List, IfSome, IfOk, IfErr, OnOk, OnErr, option_map, string_bytes};
 ghost use Rattle.std.specs.Io.KnownBytes.{Appends, Consumes};
 ghost use Rattle.text_streams.specs.Streams.{AppendsPrefix};
-ghost use Rattle.trace_batches.specs.BatchLines.{fault_text, few_text};
+ghost use Rattle.trace_batches.specs.BatchLines.{few_text, read_fault_text};
 ghost use Rattle.trace_batches.specs.BatchNames.{text_label};
-ghost use Rattle.trace_batches.specs.Batches.{Counts, EndsBatch, HasJudged, IsBatchFault, Judges, LeavesBatch, LeavesEnd, LeavesText, WritesBatch, head_text, last_format, last_text, note_text, one_text, read_text, unread_text, verdict_with};
+ghost use Rattle.trace_batches.specs.Batches.{Counts, EndsBatch, HasJudged, IsBatchFault, Judges, LeavesBatch, LeavesEnd, LeavesText, WritesBatch, batch_head_text, last_format, last_text, note_text, one_text, readable_text, unreadable_text, verdict_with};
 ghost use Rattle.trace_batches.specs.declared.judgments.Judgment.{Judgment};
 
-use crate::batches::{BatchOptions, TextJudging, judge_pieces};
+use crate::batches::{BatchOptions, TextJudging, judge_trace_texts};
 use crate::begun::Batch;
 use crate::lines::{head, last_format};
 use crate::names::text_label;
@@ -35,8 +35,8 @@ impl Batch {
     ) -> Result<Batch, Fault>
         requires { 1 ≤ options.workers }
         ensures begun { IfOk result (λ batch. HasJudged batch options.printing []) }
-        ensures whole { OnOk result (Appends (W.contents writer.old) (W.contents writer.new) (head_text options.printing)) }
-        ensures prefix { AppendsPrefix (W.contents writer.old) (W.contents writer.new) (head_text options.printing) }
+        ensures whole { OnOk result (Appends (W.contents writer.old) (W.contents writer.new) (batch_head_text options.printing)) }
+        ensures prefix { AppendsPrefix (W.contents writer.old) (W.contents writer.new) (batch_head_text options.printing) }
         ensures fault { IfErr result IsBatchFault }
     {
         write_text(writer, head(options.printing).as_bytes())?;
@@ -56,10 +56,10 @@ impl Batch {
     /// refused as TooLong at line 0, and the next begins after its line `end`. What is printed of all traces that came is
     /// written and flushed before more is read, and then the meter hears how many there were.
     ///
-    /// Faults: OutOfMemory where an allocation was refused; Read where the reader failed, was interrupted 1,048,576 times in
-    /// a row, or gave 2^64 pieces with those before; Write where a writer failed, took no byte or was interrupted more
-    /// than 1,048,576 times in a line or a piece; NoThread where judging a piece needed a thread that the system refused. It may
-    /// wait.
+    /// Faults: OutOfMemory where an allocation was refused; Read where the reader failed, was interrupted 1,048,576 times in a
+    /// row, or gave 2^64 trace texts with those before; Write where a writer failed, took no byte or was interrupted more than
+    /// 1,048,576 times in a line or a trace text; NoThread where judging a trace text needed a thread that the system refused.
+    /// It may wait.
     pub fn judge<H: Threads + Wait + Sync, M: Meter, R: Read, W: Write, E: Write>(
         &mut self,
         rt: &H,
@@ -69,9 +69,9 @@ impl Batch {
         writer: &mut W,
         errors: &mut E,
     ) -> Result<(), Fault>
-        ensures judged { OnOk result (Judges (read_text (option_map (λ name. name.now) name.entry) (R.remaining reader.old)) self.old self.new (W.contents writer.old) (W.contents writer.new) (E.contents errors.old) (E.contents errors.new)) }
+        ensures judged { OnOk result (Judges (readable_text (option_map (λ name. name.now) name.entry) (R.remaining reader.old)) self.old self.new (W.contents writer.old) (W.contents writer.new) (E.contents errors.old) (E.contents errors.new)) }
         ensures taken { IfOk result (λ _. IfSome (R.remaining reader.old) (λ all. Consumes (R.remaining reader.old) (R.remaining reader.new) all)) }
-        ensures left { OnErr result (LeavesText (read_text (option_map (λ name. name.now) name.entry) (R.remaining reader.old)) self.old (W.contents writer.old) (W.contents writer.new) (E.contents errors.old) (E.contents errors.new)) }
+        ensures left { OnErr result (LeavesText (readable_text (option_map (λ name. name.now) name.entry) (R.remaining reader.old)) self.old (W.contents writer.old) (W.contents writer.new) (E.contents errors.old) (E.contents errors.new)) }
         ensures fault { IfErr result IsBatchFault }
     {
         let label = self.label_of(name)?;
@@ -81,7 +81,7 @@ impl Batch {
             label: label.as_str(),
             kept: self.tally.violations,
         };
-        let tally = judge_pieces(rt, &judging, meter, reader, writer, errors)?;
+        let tally = judge_trace_texts(rt, &judging, meter, reader, writer, errors)?;
         self.tally.add(&tally)
     }
 
@@ -96,8 +96,8 @@ impl Batch {
         writer: &mut W,
         errors: &mut E,
     ) -> Result<(), Fault>
-        ensures judged { OnOk result (Judges (unread_text (option_map (λ name. name.now) name.entry)) self.old self.new (W.contents writer.old) (W.contents writer.new) (E.contents errors.old) (E.contents errors.new)) }
-        ensures left { OnErr result (LeavesText (unread_text (option_map (λ name. name.now) name.entry)) self.old (W.contents writer.old) (W.contents writer.new) (E.contents errors.old) (E.contents errors.new)) }
+        ensures judged { OnOk result (Judges (unreadable_text (option_map (λ name. name.now) name.entry)) self.old self.new (W.contents writer.old) (W.contents writer.new) (E.contents errors.old) (E.contents errors.new)) }
+        ensures left { OnErr result (LeavesText (unreadable_text (option_map (λ name. name.now) name.entry)) self.old (W.contents writer.old) (W.contents writer.new) (E.contents errors.old) (E.contents errors.new)) }
         ensures fault { IfErr result IsBatchFault }
     {
         let label = self.label_of(name)?;
@@ -155,16 +155,16 @@ impl Batch {
 
 /// Judges a stream of traces' texts, one after the other: a line for each, in order, and a last line with their numbers.
 ///
-/// A piece of the stream ends with a line `end`; what follows the last one, if there is a byte, is a last piece. The line of
-/// the K-th piece is `trace K` and what its report says: `NO VIOLATION FOUND`, which a quiet batch leaves out, `VIOLATION`,
-/// or `REFUSED` with name and line; or what its decision says: `CONSISTENT`, which a quiet batch leaves out, `VIOLATION`,
-/// `UNDECIDED` with the number of steps, or `REFUSED` with name and line. Where violations are to be printed, the texts of the
-/// pieces that are violations, as they came, stand in the place of all lines, and `errors` is told which traces they are and
-/// has the last line. In JSON each line is an object, with the verdict `violation`, `no_violation_found`, `consistent`,
-/// `undecided` or `refused`; in JUnit's XML it is a suite of one document, with one test case, of which a violation has the
-/// explanation too.
+/// A trace text of the stream ends with a line `end`; what follows the last one, if there is a byte, is a last trace text. The
+/// line of the K-th trace text is `trace K` and what its report says: `NO VIOLATION FOUND`, which a quiet batch leaves out,
+/// `VIOLATION`, or `REFUSED` with name and line; or what its decision says: `CONSISTENT`, which a quiet batch leaves out,
+/// `VIOLATION`, `UNDECIDED` with the number of steps, or `REFUSED` with name and line. Where violations are to be printed, the
+/// trace texts that are violations, as they came, stand in the place of all lines, and `errors` is told which
+/// traces they are and has the last line. In JSON each line is an object, with the verdict `violation`, `no_violation_found`,
+/// `consistent`, `undecided` or `refused`; in JUnit's XML it is a suite of one document, with one test case, of which a
+/// violation has the explanation too.
 ///
-/// It is a batch of this one text, without a name: see `Batch` for what is kept of a piece, for the verdict and for the
+/// It is a batch of this one text, without a name: see `Batch` for what is kept of a trace text, for the verdict and for the
 /// faults, with each of which a prefix of the texts was written. It may wait.
 pub fn judge_batch<H: Threads + Wait + Sync, R: Read, W: Write, E: Write>(
     rt: &H,
@@ -225,8 +225,8 @@ fn write_few<E: Write>(
 
 /// Writes the line of a fault where a text can't be read.
 fn write_fault<E: Write>(is_unread: bool, errors: &mut E) -> Result<(), Fault>
-    ensures whole { OnOk result (Appends (E.contents errors.old) (E.contents errors.new) (fault_text is_unread)) }
-    ensures prefix { AppendsPrefix (E.contents errors.old) (E.contents errors.new) (fault_text is_unread) }
+    ensures whole { OnOk result (Appends (E.contents errors.old) (E.contents errors.new) (read_fault_text is_unread)) }
+    ensures prefix { AppendsPrefix (E.contents errors.old) (E.contents errors.new) (read_fault_text is_unread) }
     ensures fault { IfErr result IsBatchFault }
 {
     if is_unread {

@@ -1,4 +1,4 @@
-//! What is said of a piece of a stream.
+//! What is said of a trace text of a stream.
 ghost use Rattle.std.specs.Prelude.{◌≡◌, ◌≢◌, ℕ, List, IfOk, IfErr};
 ghost use Rattle.tso_text.specs.Refusals.{IsTraceRefusal};
 ghost use Rattle.tso_text.specs.Texts.{SpellsTrace};
@@ -8,23 +8,22 @@ ghost use Rattle.trace_batches.specs.Batches.{IsBatchFault};
 ghost use Rattle.trace_batches.specs.Internal.Decided.{is_order, judgment_of};
 ghost use Rattle.trace_batches.specs.Judgments.{asking, IsJudgment, IsJudgmentOn};
 ghost use Rattle.request_options.specs.declared.batches.BatchMethod.TheVariants.{Judge};
-ghost use Rattle.trace_batches.specs.declared.questions.Question.{Question};
+ghost use Rattle.trace_batches.specs.declared.questions.BatchQuestion.{BatchQuestion};
 
-use crate::questions::{FailureBody, Question, explain_decision, explain_finding};
-use acyclic_traces::is_shown_acyclic;
+use crate::questions::{BatchQuestion, FailureBody, explain_decision, explain_finding};
 use request_options::BatchMethod;
 use std::alloc::Global;
 use std::sync::Wait;
 use std::thread::Threads;
 use text_streams::Fault;
-use trace_decisions::{Decision, decide};
-use trace_judging::{find_violation, least_unwritten};
+use trace_decisions::{ByDecision, Decision};
+use trace_judging::{ByRules, Question, is_violation};
 use trace_reports::Finding;
 use tso_evidence::Evidence;
 use tso_ops::{OutOfMemory, Trace};
 use tso_text::{TextFault, Why, read_trace};
 
-/// What is said of a piece of a stream.
+/// What is said of a trace text of a stream.
 #[derive(Drop)]
 pub(crate) enum Judgment {
     /// It is a trace in which no violation was found.
@@ -39,14 +38,14 @@ pub(crate) enum Judgment {
     Refused(TextFault),
 }
 
-/// Judges a piece with one worker.
+/// Judges a trace text with one worker.
 ///
 /// Faults: OutOfMemory where an allocation was refused, NoThread where the system refused a thread.
-pub(crate) fn judge_piece<H: Threads + Wait>(
+pub(crate) fn judge_trace_text<H: Threads + Wait>(
     rt: &H,
     alloc: Global,
     piece: &[u8],
-    question: Question,
+    question: BatchQuestion,
 ) -> Result<Judgment, Fault>
     ensures said { IfOk result (IsJudgment question piece.now) }
     ensures fault { IfErr result IsBatchFault }
@@ -62,7 +61,7 @@ fn judge_trace<H: Threads + Wait>(
     rt: &H,
     alloc: Global,
     trace: &Trace,
-    question: Question,
+    question: BatchQuestion,
 ) -> Result<Judgment, Fault>
     ensures said { IfOk result (IsJudgmentOn question trace.now) }
     ensures fault { IfErr result IsBatchFault }
@@ -71,15 +70,14 @@ fn judge_trace<H: Threads + Wait>(
     match question.method {
         BatchMethod::Judge => judge_by_rules(rt, alloc, trace, explains),
         BatchMethod::Decide { effort } => {
-            let decision = decide(rt, alloc, trace, 1, effort)?;
+            let decision = ByDecision { workers: 1, effort }.find(rt, alloc, trace)?;
             let judgment = judgment_of(alloc, trace, &decision, explains)?;
             Ok(judgment)
         }
     }
 }
 
-/// What is said of a trace by the rules. A short trace without a violation is mostly shown to have none, which takes less time than
-/// its rounds.
+/// What is said of a trace by the rules. A certificate is made only where a violation is explained by it.
 fn judge_by_rules<H: Threads + Wait>(
     rt: &H,
     alloc: Global,
@@ -89,10 +87,13 @@ fn judge_by_rules<H: Threads + Wait>(
     ensures said { IfOk result (IsJudgmentOn (asking Judge explains) trace.now) }
     ensures fault { IfErr result IsBatchFault }
 {
-    if least_unwritten(trace).is_none() && is_shown_acyclic(trace) {
+    if !is_violation(rt, alloc, trace, 1)? {
         return Ok(Judgment::NoViolation);
     }
-    let finding = find_violation(rt, alloc, trace, 1)?;
+    if !explains {
+        return Ok(Judgment::Violation(FailureBody::none()));
+    }
+    let finding = ByRules { workers: 1 }.find(rt, alloc, trace)?;
     Ok(judgment_by(alloc, trace, &finding, explains)?)
 }
 
@@ -146,9 +147,10 @@ fn is_order(evidence: &Evidence) -> bool
     }
 }
 
-/// What is said of a piece that is refused for this fault. OutOfMemory where the fault says that an allocation was refused.
+/// What is said of a trace text that is refused for this fault. OutOfMemory where the fault says that an allocation was
+/// refused.
 fn refused_for(fault: TextFault) -> Result<Judgment, Fault>
-    ensures said { IfOk result (λ judgment. (question : Question) (piece : List ℕ) → (fault.why ≢ Why.OutOfMemory → IsTraceRefusal piece fault.line fault.why) → IsJudgment question piece judgment) }
+    ensures said { IfOk result (λ judgment. (question : BatchQuestion) (piece : List ℕ) → (fault.why ≢ Why.OutOfMemory → IsTraceRefusal piece fault.line fault.why) → IsJudgment question piece judgment) }
     ensures fault { IfErr result IsBatchFault }
 {
     if fault.why == Why::OutOfMemory {

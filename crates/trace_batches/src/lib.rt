@@ -1,4 +1,4 @@
-//! Batches: texts of traces, judged or decided one after the other and piece by piece, a line for each.
+//! Batches: texts of traces, judged or decided one after the other and trace by trace, a line for each.
 //!
 //! `README.md` says what is proved.
 #![tactic(auto)]

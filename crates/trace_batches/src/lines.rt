@@ -1,7 +1,7 @@
 //! The lines of a batch, in words, in JSON and in JUnit's XML.
 ghost use Rattle.std.specs.Prelude.{◌≡◌, ◌∷◌, ◌++◌, [], IfOk, codes, string_bytes};
 ghost use Rattle.std.specs.Fmt.{decimal};
-ghost use Rattle.trace_batches.specs.Batches.{head_text, is_left_out, last_format, note_format, written_line};
+ghost use Rattle.trace_batches.specs.Batches.{batch_head_text, is_left_out, last_format, note_format, written_line};
 ghost use Rattle.trace_batches.specs.Internal.Progress.{printing_by};
 ghost use Rattle.trace_batches.specs.BatchLines.{head_of, json_line, json_refusal, json_undecided, json_verdict, trace_line, word_line};
 
@@ -17,7 +17,7 @@ use tso_text::TextFault;
 
 /// What stands before all lines.
 pub(crate) fn head(printing: BatchPrinting) -> &'static str
-    ensures { result.now ≡ head_text printing }
+    ensures { result.now ≡ batch_head_text printing }
 {
     if printing.violations {
         ""

@@ -9,14 +9,14 @@ use decision_explanation::AsDecisionExplanation;
 use request_options::{BatchFormat, BatchMethod, BatchPrinting};
 use std::alloc::Global;
 use std::marker::Model;
-use trace_decisions::{Decision, DecisionRendering};
+use trace_decisions::Decision;
 use trace_explanation::AsExplanation;
 use trace_reports::{Finding, Rendering};
 use tso_ops::{OutOfMemory, Trace};
 
 /// What is asked of each trace of a batch.
 #[derive(Clone, Copy)]
-pub(crate) struct Question {
+pub(crate) struct BatchQuestion {
     /// How it is found out what is said of it.
     pub(crate) method: BatchMethod,
     /// Whether a violation is explained.
@@ -24,10 +24,10 @@ pub(crate) struct Question {
 }
 
 /// What is asked of each trace of a batch that is printed so.
-pub(crate) fn asked(printing: BatchPrinting) -> Question
+pub(crate) fn asked(printing: BatchPrinting) -> BatchQuestion
     ensures { result ≡ asked printing }
 {
-    Question {
+    BatchQuestion {
         method: printing.method,
         explains: !printing.violations && has_bodies(printing.format),
     }
@@ -93,7 +93,7 @@ pub(crate) fn explain_finding(
     ensures { IfOk result (λ body. body ≡ body_of explains (explained trace.now finding.now)) }
 {
     if explains {
-        let text = AsExplanation.text_of_trace(alloc, trace, finding)?;
+        let text = AsExplanation.text_of_found(alloc, trace, finding)?;
         Ok(FailureBody::of(text))
     } else {
         Ok(FailureBody::none())
@@ -110,7 +110,7 @@ pub(crate) fn explain_decision(
     ensures { IfOk result (λ body. body ≡ body_of explains (decision_explained trace.now decision.now)) }
 {
     if explains {
-        let text = AsDecisionExplanation.text_of_decision(alloc, trace, decision)?;
+        let text = AsDecisionExplanation.text_of_found(alloc, trace, decision)?;
         Ok(FailureBody::of(text))
     } else {
         Ok(FailureBody::none())

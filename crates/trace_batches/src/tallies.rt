@@ -1,4 +1,4 @@
-//! How many pieces were judged, and what is said of them.
+//! How many trace texts were judged, and what is said of them.
 ghost use Rattle.std.specs.Prelude.{◌≡◌, ◌+◌, ◌∷◌, ◌++◌, [], List, IfOk, IfErr, OnOk};
 ghost use Rattle.trace_batches.specs.BatchLines.{are_too_few};
 ghost use Rattle.trace_batches.specs.Batches.{Counts, batch_verdict, count_judged, kept_with};

@@ -1,6 +1,6 @@
 //! The last line of a batch, in words, in JSON and in JUnit's XML, and the line that says that too few traces were judged.
 ghost use Rattle.std.specs.Prelude.{◌≡◌, ◌++◌, IfOk, codes, string_bytes};
-ghost use Rattle.trace_batches.specs.BatchLines.{decided_json, decided_words, few_line, judged_json, judged_words, total_json, total_text, total_words};
+ghost use Rattle.trace_batches.specs.BatchLines.{batch_total_text, decided_json, decided_words, few_line, judged_json, judged_words, total_json, total_words};
 
 use crate::suites::total_suite;
 use crate::tallies::Tally;
@@ -15,7 +15,7 @@ pub(crate) fn total_line(
     method: BatchMethod,
     tally: &Tally,
 ) -> Result<String, OutOfMemory>
-    ensures { IfOk result (λ line. string_bytes line ≡ total_text format method tally.now) }
+    ensures { IfOk result (λ line. string_bytes line ≡ batch_total_text format method tally.now) }
 {
     match format {
         BatchFormat::Words => {

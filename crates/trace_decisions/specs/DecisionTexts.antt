@@ -1,18 +1,14 @@
 -- The text of a decision on a trace.
-use Rattle.std.specs.Prelude.{◌≡◌, ◌⊎◌, ℕ, List, [], ◌++◌, codes, Option}
+use Rattle.std.specs.Prelude.{ℕ, List, [], ◌++◌, codes, Option}
 use Rattle.std.specs.Fmt.{decimal}
 use Rattle.tso_ops.specs.Values.{TraceValue}
 use Rattle.tso_ops.specs.Events.{processor_count, event_total}
-use Rattle.tso_text.specs.Texts.{SpellsTrace}
-use Rattle.tso_text.specs.declared.faults.Why.{Why}
-use Rattle.tso_text.specs.Refusals.{IsTraceRefusal}
 use Rattle.tso_model.specs.Axioms.{IsConsistent}
 use Rattle.tso_evidence.specs.declared.evidence.Evidence.{Evidence}
-use Rattle.tso_evidence.specs.declared.evidence.Evidence.TheVariants.{Unwritten, Order, Refutation}
+use Rattle.tso_evidence.specs.declared.evidence.Evidence.TheVariants.{Order}
 use Rattle.tso_evidence.specs.Printed.{evidence_text}
-use Rattle.trace_reports.specs.Renderings.{SaidOfRefusal}
+use Rattle.trace_reports.specs.Renderings.{IsRendered, IsTextOf, IsTextOfBytes, RendersRefusal}
 use Rattle.trace_reports.specs.Violations.{IsViolation}
-use Rattle.text_streams.specs.Readings.{ReadsAs}
 use Rattle.trace_reports.specs.declared.answers.Answer.{Answer}
 use Rattle.trace_reports.specs.declared.answers.Answer.TheVariants.{Clear, Violation, Undecided as NotDecided, Refused, Unread}
 use Rattle.trace_decisions.specs.declared.decisions.Decision.{Decision}
@@ -21,9 +17,8 @@ use Rattle.trace_decisions.specs.Decisions.{IsDecision}
 
 -- what evidence that holds says of its trace
 abbrev pub answer_by : Evidence → Answer
-answer_by (Unwritten n) = Violation
 answer_by (Order order) = Clear
-answer_by (Refutation lines) = Violation
+answer_by _ = Violation
 
 -- what a decision says
 abbrev pub answer_of : Decision → Answer
@@ -40,9 +35,8 @@ AnswerSays t Unread = Unit {0}
 
 -- the line that says whether there is an order
 abbrev pub answer_line : Evidence → List ℕ
-answer_line (Unwritten n) = codes "VIOLATION\n"
 answer_line (Order order) = codes "CONSISTENT\n"
-answer_line (Refutation lines) = codes "VIOLATION\n"
+answer_line _ = codes "VIOLATION\n"
 
 -- the line of the answer
 abbrev pub decided_line : Decision → List ℕ
@@ -54,36 +48,24 @@ abbrev pub decision_head : TraceValue → Decision → List ℕ
 decision_head t d = codes "TSO DECISION 1\nprocessors " ++ decimal (processor_count t) ++ codes " events " ++ decimal (event_total t) ++ codes "\n" ++ decided_line d
 
 -- the evidence, where there is any
-abbrev pub shown_evidence : Decision → List ℕ
-shown_evidence (Decided e) = evidence_text e
-shown_evidence (Undecided steps) = []
+abbrev pub rendered_evidence : Decision → List ℕ
+rendered_evidence (Decided e) = evidence_text e
+rendered_evidence (Undecided steps) = []
 
 -- the text of a decision on a trace
 abbrev pub decision_text : TraceValue → Decision → List ℕ
-decision_text t d = decision_head t d ++ shown_evidence d
+decision_text t d = decision_head t d ++ rendered_evidence d
 
 -- ---- texts that follow from a decision, or from the refusal of an input
 
--- what is said of a trace by a decision on it
-abbrev pub SaidOfDecision : Type 0
-SaidOfDecision = TraceValue → Decision → List ℕ
+-- the text is rendered of the trace by a decision after so many steps
+abbrev pub IsDecisionText : (TraceValue → Decision → List ℕ) → ℕ → TraceValue → List ℕ → Answer → Type 0
+IsDecisionText renders effort t text answer = IsRendered (IsDecision effort) answer_of renders t text answer
 
--- The text is what is said of the trace by a decision on it, and the answer is what the decision says.
-pub record IsDecisionText (said : SaidOfDecision) (t : TraceValue) (effort : ℕ) (text : List ℕ) (answer : Answer) : Type 0 where
-  pub decision : Decision
-  pub decided : IsDecision t effort decision
-  pub whole : text ≡ said t decision
-  pub says : answer ≡ answer_of decision
-
--- The input is refused, and the text is what is said of that.
-abbrev pub IsRefusalText : SaidOfRefusal → List ℕ → List ℕ → Answer → Type 0
-IsRefusalText refused input text answer = (line : ℕ) × (why : Why) × IsTraceRefusal input line why × (text ≡ refused input line why) × (answer ≡ Refused)
-
--- The text is what is said of a decision on the trace that the input spells, or of the refusal of the input.
-abbrev pub IsDecisionOf : SaidOfDecision → SaidOfRefusal → ℕ → List ℕ → List ℕ → Answer → Type 0
-IsDecisionOf said refused effort input text answer =
-    ((t : TraceValue) × SpellsTrace input t × IsDecisionText said t effort text answer) ⊎ IsRefusalText refused input text answer
+-- the text is rendered of a decision on the trace that the input spells, or of the refusal of the input
+abbrev pub IsDecisionOf : (TraceValue → Decision → List ℕ) → RendersRefusal → ℕ → List ℕ → List ℕ → Answer → Type 0
+IsDecisionOf renders refused effort input text answer = IsTextOf (IsDecisionText renders effort) Refused refused input text answer
 
 -- the same of the bytes of a reader
-abbrev pub IsDecisionOfReader : SaidOfDecision → SaidOfRefusal → ℕ → Option (List ℕ) → List ℕ → Answer → Type 0
-IsDecisionOfReader said refused effort remaining text answer = ReadsAs remaining (λ input. IsDecisionOf said refused effort input text answer)
+abbrev pub IsDecisionOfReader : (TraceValue → Decision → List ℕ) → RendersRefusal → ℕ → Option (List ℕ) → List ℕ → Answer → Type 0
+IsDecisionOfReader renders refused effort remaining text answer = IsTextOfBytes (IsDecisionText renders effort) Refused refused remaining text answer

@@ -2,7 +2,7 @@
 use Rattle.std.specs.Prelude.{◌≡◌, ℕ}
 use Rattle.tso_ops.specs.Values.{TraceValue}
 use Rattle.tso_ops.specs.Events.{IsUnwritten}
-use Rattle.tso_model.specs.Axioms.{IsModelOrder, IsConsistent}
+use Rattle.tso_model.specs.Axioms.{IsModelOrder}
 use Rattle.tso_evidence.specs.declared.evidence.Evidence.{Evidence}
 use Rattle.tso_evidence.specs.declared.evidence.Evidence.TheVariants.{Unwritten, Order, Refutation}
 use Rattle.refutation_check.specs.Refutations.{RefutationHolds}
@@ -16,18 +16,7 @@ HoldsFor t (Unwritten n) = IsUnwritten t n
 HoldsFor t (Order order) = IsModelOrder t order
 HoldsFor t (Refutation lines) = RefutationHolds t lines
 
--- the evidence says that the trace is consistent, or else that it isn't
-abbrev pub Says : TraceValue → Evidence → Type 0
-Says t (Unwritten n) = IsConsistent t → ⊥
-Says t (Order order) = IsConsistent t
-Says t (Refutation lines) = IsConsistent t → ⊥
-
 -- The decision on the trace: evidence that holds, or, after as many steps as were allowed, only that it is no violation by the rules.
-abbrev pub IsDecision : TraceValue → ℕ → Decision → Type 0
-IsDecision t effort (Decided e) = HoldsFor t e
-IsDecision t effort (Undecided steps) = (steps ≡ effort) × (IsViolation t → ⊥)
-
--- what a decision says of the trace
-abbrev pub Tells : TraceValue → Decision → Type 0
-Tells t (Decided e) = Says t e
-Tells t (Undecided steps) = IsViolation t → ⊥
+abbrev pub IsDecision : ℕ → TraceValue → Decision → Type 0
+IsDecision effort t (Decided e) = HoldsFor t e
+IsDecision effort t (Undecided steps) = (steps ≡ effort) × (IsViolation t → ⊥)

@@ -1,11 +1,8 @@
 -- The line on evidence about a trace: whether it holds, or why it is refused.
-use Rattle.std.specs.Prelude.{◌≡◌, ◌⊎◌, ℕ, ◌≤◌, List, [], ◌∷◌, ◌++◌, length, codes, Option}
+use Rattle.std.specs.Prelude.{◌≡◌, ◌⊎◌, ℕ, List, [], ◌∷◌, ◌++◌, codes, Option}
 use Rattle.std.specs.Fmt.{decimal}
 use Rattle.tso_ops.specs.Values.{TraceValue}
 use Rattle.tso_ops.specs.Events.{IsUnwritten}
-use Rattle.tso_text.specs.Texts.{SpellsTrace}
-use Rattle.tso_text.specs.declared.faults.Why.{Why}
-use Rattle.tso_text.specs.Refusals.{IsTraceRefusal}
 use Rattle.tso_evidence.specs.declared.evidence.Evidence.{Evidence}
 use Rattle.tso_evidence.specs.declared.evidence.Evidence.TheVariants.{Unwritten, Order, Refutation}
 use Rattle.tso_evidence.specs.declared.faults.EvidenceFault.{EvidenceFault}
@@ -17,9 +14,7 @@ use Rattle.order_check.specs.Refusals.{IsOrderRefusal, axiom_name}
 use Rattle.refutation_check.specs.declared.faults.RefutationFault.{RefutationFault}
 use Rattle.refutation_check.specs.declared.faults.RefutationFault.TheVariants.{Misplaced, Unfinished, EventRange, BaseRefused, SideRefused, PathUnlisted, CaseRefused, CycleUnlisted, EmptyCycle}
 use Rattle.refutation_check.specs.Refusals.{IsRefutationRefusal}
-use Rattle.trace_judging.specs.Limits.{certificate_byte_limit}
-use Rattle.text_streams.specs.Readings.{ReadsAs}
-use Rattle.trace_reports.specs.RefusalLines.{refusal_text}
+use Rattle.trace_judging.specs.Evidence.{IsReportOfReaders, IsReportOfTexts}
 use Rattle.trace_reports.specs.declared.answers.Answer.{Answer}
 use Rattle.trace_reports.specs.declared.answers.Answer.TheVariants.{Refused}
 use Rattle.trace_decisions.specs.Decisions.{HoldsFor}
@@ -28,10 +23,10 @@ use Rattle.trace_decisions.specs.DecisionTexts.{answer_by}
 -- ---- texts
 
 -- the line of evidence that holds
-abbrev pub holds_text : Evidence → List ℕ
-holds_text (Order order) = codes "ORDER HOLDS\n"
-holds_text (Unwritten n) = codes "REFUTATION HOLDS\n"
-holds_text (Refutation lines) = codes "REFUTATION HOLDS\n"
+abbrev pub evidence_holds_text : Evidence → List ℕ
+evidence_holds_text (Order order) = codes "ORDER HOLDS\n"
+evidence_holds_text (Unwritten n) = codes "REFUTATION HOLDS\n"
+evidence_holds_text (Refutation lines) = codes "REFUTATION HOLDS\n"
 
 -- the refusal of an order, with its place
 abbrev pub order_fault_text : OrderFault → List ℕ
@@ -53,8 +48,8 @@ refutation_fault_text (CycleUnlisted line) = codes "CycleUnlisted line " ++ deci
 refutation_fault_text (EmptyCycle line) = codes "EmptyCycle line " ++ decimal line
 
 -- the line of a refused text of evidence
-abbrev pub unread_text : ℕ → EvidenceFault → List ℕ
-unread_text line why = codes "EVIDENCE REFUSED " ++ evidence_refusal_name why ++ codes " line " ++ decimal line ++ codes "\n"
+abbrev pub evidence_refusal_text : ℕ → EvidenceFault → List ℕ
+evidence_refusal_text line why = codes "EVIDENCE REFUSED " ++ evidence_refusal_name why ++ codes " line " ++ decimal line ++ codes "\n"
 
 -- ---- the report of a text of evidence on a trace
 
@@ -68,28 +63,21 @@ IsFailureLine t (Refutation lines) text =
 -- The text is the line on this evidence about the trace, and the answer is what it says.
 abbrev pub IsEvidenceLine : TraceValue → Evidence → List ℕ → Answer → Type 0
 IsEvidenceLine t e text answer =
-    (HoldsFor t e × (text ≡ holds_text e) × (answer ≡ answer_by e))
+    (HoldsFor t e × (text ≡ evidence_holds_text e) × (answer ≡ answer_by e))
     ⊎ (IsFailureLine t e text × (answer ≡ Refused))
 
 -- The text is the line on the evidence that the input spells, or on its refusal.
 abbrev pub IsEvidenceReport : TraceValue → List ℕ → List ℕ → Answer → Type 0
 IsEvidenceReport t input text answer =
     ((e : Evidence) × SpellsEvidence input e × IsEvidenceLine t e text answer)
-    ⊎ ((line : ℕ) × (why : EvidenceFault) × IsEvidenceTextRefusal input line why × (text ≡ unread_text line why) × (answer ≡ Refused))
+    ⊎ ((line : ℕ) × (why : EvidenceFault) × IsEvidenceTextRefusal input line why × (text ≡ evidence_refusal_text line why) × (answer ≡ Refused))
 
 -- ---- the report of two texts
 
--- The text is the line on both: that of the evidence, whose text keeps its limit, on the trace that the first spells; or the line of the first
--- one's refusal.
+-- the text is the line on a trace's text and on that of evidence
 abbrev pub IsVerification : List ℕ → List ℕ → List ℕ → Answer → Type 0
-IsVerification trace evidence text answer =
-    ((t : TraceValue) × SpellsTrace trace t × (length evidence ≤ certificate_byte_limit) × IsEvidenceReport t evidence text answer)
-    ⊎ ((line : ℕ) × (why : Why) × IsTraceRefusal trace line why × (text ≡ refusal_text line why) × (answer ≡ Refused))
+IsVerification trace evidence text answer = IsReportOfTexts IsEvidenceReport Refused trace evidence text answer
 
--- the text is the line on the bytes of a reader, which keep their limit
-abbrev pub IsEvidenceReportOfReader : TraceValue → Option (List ℕ) → List ℕ → Answer → Type 0
-IsEvidenceReportOfReader t remaining text answer = ReadsAs remaining (λ evidence. (length evidence ≤ certificate_byte_limit) × IsEvidenceReport t evidence text answer)
-
--- the same of the bytes of two readers, of a trace and of evidence
+-- the same of the bytes of two readers
 abbrev pub IsVerificationOfReaders : Option (List ℕ) → Option (List ℕ) → List ℕ → Answer → Type 0
-IsVerificationOfReaders traces evidence text answer = ReadsAs traces (λ trace. ReadsAs evidence (λ input. IsVerification trace input text answer))
+IsVerificationOfReaders traces evidence text answer = IsReportOfReaders IsEvidenceReport Refused traces evidence text answer

@@ -1,15 +1,16 @@
 //! The decision on a trace.
-ghost use Rattle.std.specs.Prelude.{◌≡◌, ◌⊎◌, ◌≤◌, IfOk, IfErr, IfSome};
-ghost use Rattle.round_pool.specs.Workers.{worker_limit};
-ghost use Rattle.tso_ops.specs.Limits.{IsTrace};
+ghost use Rattle.std.specs.Prelude.{◌≡◌, IfOk, IfSome};
 ghost use Rattle.tso_model.specs.Certs.{Holds};
 ghost use Rattle.tso_evidence.specs.Certificates.{certificate_lines};
 ghost use Rattle.refutation_check.specs.Refutations.{RefutationHolds};
 ghost use Rattle.trace_reports.specs.Violations.{IsViolation};
-ghost use Rattle.text_streams.specs.declared.faults.Fault.{Fault};
-ghost use Rattle.trace_decisions.specs.Decisions.{HoldsFor, IsDecision, Tells};
+ghost use Rattle.trace_judging.specs.Limits.{HasWorkerRange};
+ghost use Rattle.trace_reports.specs.declared.answers.Answer.{Answer};
+ghost use Rattle.trace_decisions.specs.Decisions.{HoldsFor, IsDecision};
+ghost use Rattle.trace_decisions.specs.DecisionTexts.{AnswerSays, answer_of};
 
 use crate::search::{Next, Search};
+use crate::texts::answer_by;
 use order_check::check_order;
 use refutation_check::check_refutation;
 use round_pool::Ranked;
@@ -18,7 +19,8 @@ use std::alloc::Global;
 use std::sync::Wait;
 use std::thread::Threads;
 use text_streams::Fault;
-use trace_judging::{build_cert, least_unwritten, rank_edges};
+use trace_judging::{Question, build_cert, least_unwritten, rank_edges};
+use trace_reports::Answer;
 use tso_cert::{CertStep, Certificate, NumList, Reason};
 use tso_evidence::{Evidence, LineList, RefutationLine};
 use tso_ops::{OutOfMemory, Trace};
@@ -32,53 +34,62 @@ pub enum Decision {
     Undecided(u64),
 }
 
-/// Decides whether a trace has an order that meets the axioms of its memory model, on `workers` workers (1 to 64), with at most
-/// `effort` steps of the search.
-///
-/// A load whose value nothing wrote, and a cycle of the edges that the rules force, are found as a violation is. Else an order is
-/// searched for, and where two stores of one address could come in either order, both are supposed in turn. What is answered was
-/// accepted by the checker of orders or by that of refutations.
-///
-/// Faults: OutOfMemory where an allocation was refused, NoThread where the system refused a thread.
-pub fn decide<H: Threads + Wait>(
-    rt: &H,
-    alloc: Global,
-    trace: &Trace,
-    workers: usize,
-    effort: u64,
-) -> Result<Decision, Fault>
-    requires some { 1 ≤ workers }
-    requires most { workers ≤ worker_limit }
-    ensures decided { IfOk result (IsDecision trace.now effort) }
-    ensures tells { IfOk result (Tells trace.now) }
-    ensures fault { IfErr result (λ fault. (fault ≡ Fault.OutOfMemory) ⊎ (fault ≡ Fault.NoThread)) }
-{
-    found(rt, alloc, trace, workers, effort)
+/// The question whether a trace has an order that meets the axioms of its memory model.
+#[derive(Clone, Copy, Debug, PartialEq, Eq)]
+pub struct ByDecision {
+    /// On how many workers the rounds are made, 1 to 64.
+    pub workers: usize,
+    /// How many steps the search does, at most.
+    pub effort: u64,
 }
 
-/// What is found of the trace.
-fn found<H: Threads + Wait>(
-    rt: &H,
-    alloc: Global,
-    trace: &Trace,
-    workers: usize,
-    effort: u64,
-) -> Result<Decision, Fault>
-    requires some { 1 ≤ workers }
-    requires most { workers ≤ worker_limit }
-    ensures decided { IfOk result (IsDecision trace.now effort) }
-    ensures kept { IsTrace trace.now }
-    ensures fault { IfErr result (λ fault. (fault ≡ Fault.OutOfMemory) ⊎ (fault ≡ Fault.NoThread)) }
-{
-    // The call is for the proof: its clause `kept` says that the trace is within the limits of traces.
-    let _events = trace.events();
-    if let Some(load) = least_unwritten(trace) {
-        return Ok(Decision::Decided(Evidence::Unwritten(load as u64)));
+impl Question for ByDecision {
+    type Found = Decision;
+
+    type Verdict = Answer;
+
+    ghost is_limited = { λ question. HasWorkerRange question.workers };
+
+    ghost is_found = { λ question. IsDecision question.effort };
+
+    ghost answers = { answer_of };
+
+    ghost refusing = { Answer.Refused };
+
+    ghost says = { AnswerSays };
+
+    /// Decides on a trace.
+    ///
+    /// A load whose value nothing wrote, and a cycle of the edges that the rules force, are found as a violation is. Else an order
+    /// is searched for, and where two stores of one address could come in either order, both are supposed in turn. What is answered
+    /// was accepted by the checker of orders or by that of refutations.
+    fn find<H: Threads + Wait>(
+        &self,
+        rt: &H,
+        alloc: Global,
+        trace: &Trace,
+    ) -> Result<Decision, Fault> {
+        // Its clause `kept`, that the trace is within the limits of traces, is what `says` rests on.
+        let _events = trace.events();
+        if let Some(load) = least_unwritten(trace) {
+            return Ok(Decision::Decided(Evidence::Unwritten(load as u64)));
+        }
+        let ranked = rank_edges(rt, alloc, trace, self.workers, 0)?;
+        match build_cert(alloc, trace, &ranked)? {
+            Some(certificate) => Ok(Decision::Decided(as_evidence(alloc, trace, &certificate)?)),
+            None => Ok(by_search(alloc, trace, &ranked, self.effort)?),
+        }
     }
-    let ranked = rank_edges(rt, alloc, trace, workers, 0)?;
-    match build_cert(alloc, trace, &ranked)? {
-        Some(certificate) => Ok(Decision::Decided(as_evidence(alloc, trace, &certificate)?)),
-        None => Ok(by_search(alloc, trace, &ranked, effort)?),
+
+    fn answer(&self, found: &Decision) -> Answer {
+        match found {
+            Decision::Decided(evidence) => answer_by(evidence),
+            Decision::Undecided(_) => Answer::Undecided,
+        }
+    }
+
+    fn refusal(&self) -> Answer {
+        Answer::Refused
     }
 }
 
@@ -159,7 +170,7 @@ fn by_search(
     effort: u64,
 ) -> Result<Decision, OutOfMemory>
     requires { IsViolation trace.now → ⊥ }
-    ensures { IfOk result (IsDecision trace.now effort) }
+    ensures { IfOk result (IsDecision effort trace.now) }
 {
     let memory = Memory::new(alloc);
     let mut search = Search::new(&memory, trace, ranked);

@@ -1,37 +1,58 @@
 //! The line on evidence.
 ghost use Rattle.std.specs.Prelude.{◌≡◌, ◌++◌, IfOk, codes, string_bytes};
 ghost use Rattle.tso_ops.specs.Limits.{IsTrace};
-ghost use Rattle.trace_decisions.specs.EvidenceReports.{IsEvidenceLine, IsEvidenceReport, holds_text, order_fault_text, refutation_fault_text, unread_text};
+ghost use Rattle.trace_reports.specs.declared.answers.Answer.{Answer};
+ghost use Rattle.trace_decisions.specs.DecisionTexts.{AnswerSays};
+ghost use Rattle.trace_decisions.specs.EvidenceReports.{IsEvidenceLine, IsEvidenceReport, evidence_holds_text, evidence_refusal_text, order_fault_text, refutation_fault_text};
 
-use crate::texts::{Said, answer_by};
+use crate::texts::answer_by;
 use order_check::{OrderFault, check_order};
 use refutation_check::{RefutationFault, check_refutation};
 use std::alloc::Global;
-use trace_reports::Answer;
-use tso_evidence::{Evidence, EvidenceFault, RefutationLine, TextFault, read_evidence};
+use trace_judging::EvidenceKind;
+use trace_reports::{Answer, Report};
+use tso_evidence::{Evidence, EvidenceFault, EvidenceTextFault, RefutationLine, read_evidence};
 use tso_ops::{OutOfMemory, Trace};
 
-/// The line on a text of evidence about a trace. OutOfMemory where an allocation was refused.
-pub(crate) fn render_evidence(
-    alloc: Global,
-    trace: &Trace,
-    input: &[u8],
-) -> Result<Said, OutOfMemory>
-    ensures { IfOk result (λ said. IsEvidenceReport trace.now input.now (string_bytes said.text) said.answer) }
-{
-    match read_evidence(alloc, input) {
-        Ok(evidence) => line_on(alloc, trace, &evidence),
-        Err(fault) if fault.why == EvidenceFault::OutOfMemory => Err(OutOfMemory),
-        Err(fault) => Ok(Said {
-            answer: Answer::Refused,
-            text: unread_text(alloc, fault)?,
-        }),
+/// Orders, refutations and unwritten loads, as evidence.
+#[derive(Clone, Copy)]
+pub struct OrdersAndRefutations;
+
+impl EvidenceKind for OrdersAndRefutations {
+    type Verdict = Answer;
+
+    ghost is_report = { IsEvidenceReport };
+
+    ghost refusing = { Answer.Refused };
+
+    ghost says = { AnswerSays };
+
+    fn report(
+        &self,
+        alloc: Global,
+        trace: &Trace,
+        input: &[u8],
+    ) -> Result<Report<Answer>, OutOfMemory> {
+        // Its clause `kept`, that the trace is within the limits of traces, is what `says` rests on.
+        let _events = trace.events();
+        match read_evidence(alloc, input) {
+            Ok(evidence) => line_on(alloc, trace, &evidence),
+            Err(fault) if fault.why == EvidenceFault::OutOfMemory => Err(OutOfMemory),
+            Err(fault) => Ok(Report {
+                verdict: Answer::Refused,
+                text: unread_text(alloc, fault)?,
+            }),
+        }
+    }
+
+    fn refusal(&self) -> Answer {
+        Answer::Refused
     }
 }
 
 /// The line on evidence about a trace.
-fn line_on(alloc: Global, trace: &Trace, evidence: &Evidence) -> Result<Said, OutOfMemory>
-    ensures { IfOk result (λ said. IsEvidenceLine trace.now evidence.now (string_bytes said.text) said.answer) }
+fn line_on(alloc: Global, trace: &Trace, evidence: &Evidence) -> Result<Report<Answer>, OutOfMemory>
+    ensures { IfOk result (λ report. IsEvidenceLine trace.now evidence.now (string_bytes report.text) report.verdict) }
 {
     match evidence {
         Evidence::Unwritten(n) => line_on_load(alloc, trace, *n),
@@ -41,33 +62,33 @@ fn line_on(alloc: Global, trace: &Trace, evidence: &Evidence) -> Result<Said, Ou
 }
 
 /// The line on a load that is said to be unwritten.
-fn line_on_load(alloc: Global, trace: &Trace, n: u64) -> Result<Said, OutOfMemory>
-    ensures { IfOk result (λ said. IsEvidenceLine trace.now (Evidence.Unwritten n) (string_bytes said.text) said.answer) }
+fn line_on_load(alloc: Global, trace: &Trace, n: u64) -> Result<Report<Answer>, OutOfMemory>
+    ensures { IfOk result (λ report. IsEvidenceLine trace.now (Evidence.Unwritten n) (string_bytes report.text) report.verdict) }
 {
     if trace.is_unwritten(n as usize) {
-        Ok(Said {
-            answer: Answer::Violation,
+        Ok(Report {
+            verdict: Answer::Violation,
             text: String::from_str(alloc, "REFUTATION HOLDS\n")?,
         })
     } else {
-        Ok(Said {
-            answer: Answer::Refused,
+        Ok(Report {
+            verdict: Answer::Refused,
             text: String::from_str(alloc, "REFUTATION REFUSED NotUnwritten\n")?,
         })
     }
 }
 
 /// The line on an order.
-fn line_on_order(alloc: Global, trace: &Trace, order: &[u64]) -> Result<Said, OutOfMemory>
-    ensures { IfOk result (λ said. IsEvidenceLine trace.now (Evidence.Order order.now) (string_bytes said.text) said.answer) }
+fn line_on_order(alloc: Global, trace: &Trace, order: &[u64]) -> Result<Report<Answer>, OutOfMemory>
+    ensures { IfOk result (λ report. IsEvidenceLine trace.now (Evidence.Order order.now) (string_bytes report.text) report.verdict) }
 {
     match check_order(alloc, trace, order)? {
-        Ok(()) => Ok(Said {
-            answer: Answer::Clear,
+        Ok(()) => Ok(Report {
+            verdict: Answer::Clear,
             text: String::from_str(alloc, "ORDER HOLDS\n")?,
         }),
-        Err(fault) => Ok(Said {
-            answer: Answer::Refused,
+        Err(fault) => Ok(Report {
+            verdict: Answer::Refused,
             text: order_refused(alloc, fault)?,
         }),
     }
@@ -78,24 +99,24 @@ fn line_on_refutation(
     alloc: Global,
     trace: &Trace,
     lines: &[RefutationLine],
-) -> Result<Said, OutOfMemory>
-    ensures { IfOk result (λ said. IsEvidenceLine trace.now (Evidence.Refutation lines.now) (string_bytes said.text) said.answer) }
+) -> Result<Report<Answer>, OutOfMemory>
+    ensures { IfOk result (λ report. IsEvidenceLine trace.now (Evidence.Refutation lines.now) (string_bytes report.text) report.verdict) }
 {
     match check_refutation(alloc, trace, lines)? {
-        Ok(()) => Ok(Said {
-            answer: Answer::Violation,
+        Ok(()) => Ok(Report {
+            verdict: Answer::Violation,
             text: String::from_str(alloc, "REFUTATION HOLDS\n")?,
         }),
-        Err(fault) => Ok(Said {
-            answer: Answer::Refused,
+        Err(fault) => Ok(Report {
+            verdict: Answer::Refused,
             text: refutation_refused(alloc, fault)?,
         }),
     }
 }
 
 /// The line of a refused text of evidence.
-fn unread_text(alloc: Global, fault: TextFault) -> Result<String, OutOfMemory>
-    ensures { IfOk result (λ text. string_bytes text ≡ unread_text fault.line fault.why) }
+fn unread_text(alloc: Global, fault: EvidenceTextFault) -> Result<String, OutOfMemory>
+    ensures { IfOk result (λ text. string_bytes text ≡ evidence_refusal_text fault.line fault.why) }
 {
     let name = fault.why.name();
     let line = fault.line;

@@ -4,9 +4,10 @@
 //! `README.md` says what is proved.
 #![tactic(auto)]
 
-pub use decisions::{Decision, copy_step, decide};
-pub use renderings::{AsDecision, DecisionRendering, render_decision_head};
-pub use texts::{DecisionLimits, Said, decide_input, decide_text};
+pub use decisions::{ByDecision, Decision, copy_step};
+pub use evidence_lines::OrdersAndRefutations;
+pub use renderings::{AsDecision, render_decision_head};
+pub use texts::decide_input;
 pub use verifying::verify_texts;
 
 mod decisions;

@@ -1,9 +1,7 @@
-//! How a decision is told: its text, and others that follow from it.
-ghost use Rattle.std.specs.Prelude.{◌≡◌, ◌++◌, ℕ, List, refl, IfOk, OnOk, string_bytes};
-ghost use Rattle.tso_text.specs.declared.faults.Why.{Why};
-ghost use Rattle.trace_reports.specs.Renderings.{SaidOfRefusal};
+//! The text of a decision.
+ghost use Rattle.std.specs.Prelude.{◌≡◌, ◌++◌, refl, IfOk, OnOk, string_bytes};
 ghost use Rattle.trace_reports.specs.Reports.{refusal_shown};
-ghost use Rattle.trace_decisions.specs.DecisionTexts.{SaidOfDecision, answer_line, decided_line, decision_head, decision_text, shown_evidence};
+ghost use Rattle.trace_decisions.specs.DecisionTexts.{answer_line, decided_line, decision_head, decision_text, rendered_evidence};
 
 use crate::decisions::Decision;
 use std::alloc::Global;
@@ -13,46 +11,16 @@ use tso_evidence::{Evidence, print_evidence};
 use tso_ops::{OutOfMemory, Trace};
 use tso_text::TextFault;
 
-/// How a decision on a trace is told: as its text, as an explanation, as a picture.
-pub trait DecisionRendering {
-    /// What is said of a trace by a decision on it.
-    ghost said: { SaidOfDecision };
-
-    /// What is said of a text that is no trace.
-    ghost refused: { SaidOfRefusal };
-
-    /// What is said of a trace, of which this was decided. OutOfMemory where an allocation was refused.
-    fn text_of_decision(
-        &self,
-        alloc: Global,
-        trace: &Trace,
-        decision: &Decision,
-    ) -> Result<String, OutOfMemory>
-        ensures { IfOk result (λ text. string_bytes text ≡ said trace.now decision.now) };
-
-    /// What is said of a text that is refused for this fault. OutOfMemory where an allocation was refused.
-    fn text_of_refusal(
-        &self,
-        alloc: Global,
-        input: &[u8],
-        fault: TextFault,
-    ) -> Result<String, OutOfMemory>
-        ensures { IfOk result (λ text. string_bytes text ≡ refused input.now fault.line fault.why) };
-
-    /// What is said of a text that is refused as a whole, at line 0, is the same for all texts.
-    ghost whole: { (a b : List ℕ) (why : Why) → refused a 0 why ≡ refused b 0 why };
-}
-
 /// The text of a decision: its head, and the evidence; or the line of a refusal.
 #[derive(Clone, Copy)]
 pub struct AsDecision;
 
-impl DecisionRendering for AsDecision {
-    ghost said = { decision_text };
+impl Rendering<Trace, Decision> for AsDecision {
+    ghost rendered = { λ form. decision_text };
 
-    ghost refused = { refusal_shown };
+    ghost refused = { λ form. refusal_shown };
 
-    fn text_of_decision(
+    fn text_of_found(
         &self,
         alloc: Global,
         trace: &Trace,
@@ -72,7 +40,7 @@ impl DecisionRendering for AsDecision {
         AsReport.text_of_refusal(alloc, input, fault)
     }
 
-    ghost whole = { λ a b why. refl };
+    ghost whole = { λ form a b why. refl };
 }
 
 /// The first lines of what is said of a decision: how many processors and events the trace has, and whether it has an order.
@@ -113,7 +81,7 @@ fn answer_line(evidence: &Evidence) -> &'static str
 
 /// Appends the evidence, where there is any.
 fn print_shown(text: &mut String, decision: &Decision) -> Result<(), OutOfMemory>
-    ensures { OnOk result (string_bytes text.new ≡ string_bytes text.old ++ shown_evidence decision.now) }
+    ensures { OnOk result (string_bytes text.new ≡ string_bytes text.old ++ rendered_evidence decision.now) }
 {
     match decision {
         Decision::Decided(evidence) => print_evidence(text, evidence),

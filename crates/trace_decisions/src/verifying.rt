@@ -1,5 +1,5 @@
-//! Evidence against its trace: read the one, then the other, check, render, write.
-ghost use Rattle.std.specs.Prelude.{◌≡◌, ◌≢◌, ◌⊎◌, string_bytes, IfSome, IfOk, IfErr};
+//! The check of evidence's text against a trace's.
+ghost use Rattle.std.specs.Prelude.{◌≡◌, ◌≢◌, ◌⊎◌, IfSome, IfOk, IfErr};
 ghost use Rattle.tso_ops.specs.Values.{TraceValue};
 ghost use Rattle.tso_text.specs.Refusals.{IsRefusedTrace};
 ghost use Rattle.tso_text.specs.Texts.{SpellsTrace};
@@ -9,17 +9,14 @@ ghost use Rattle.trace_judging.specs.Limits.{certificate_read_limit};
 ghost use Rattle.text_streams.specs.Streams.{LosesPrefix};
 ghost use Rattle.text_streams.specs.WrittenTexts.{LeavesAtFault, WritesWhole};
 ghost use Rattle.trace_decisions.specs.DecisionTexts.{AnswerSays};
-ghost use Rattle.trace_decisions.specs.EvidenceReports.{IsEvidenceReportOfReader, IsVerificationOfReaders};
+ghost use Rattle.trace_decisions.specs.EvidenceReports.{IsVerificationOfReaders};
 
-use crate::evidence_lines::render_evidence;
-use crate::texts::Said;
+use crate::evidence_lines::OrdersAndRefutations;
 use std::alloc::Global;
 use std::io::{Read, Write};
-use text_streams::{Fault, read_all, write_text};
-use trace_judging::read_cert_text;
-use trace_reports::{Answer, render_refusal};
-use tso_ops::Trace;
-use tso_text::{MAX_TEXT_BYTES, read_trace};
+use text_streams::Fault;
+use trace_judging::check_evidence;
+use trace_reports::Answer;
 
 /// Checks evidence against a trace: reads the text of the trace, then that of the evidence, and writes the line that says
 /// whether it holds.
@@ -43,40 +40,5 @@ pub fn verify_texts<T: Read, E: Read, W: Write>(
     ensures fault { IfErr result (LeavesAtFault (IsVerificationOfReaders (T.remaining traces.old) (E.remaining evidence.old)) (W.contents writer.old) (W.contents writer.new)) }
     ensures no_thread { IfErr result (λ fault. fault ≢ Fault.NoThread) }
 {
-    let said = verify_readers(alloc, traces, evidence)?;
-    write_text(writer, said.text.as_bytes())?;
-    Ok(said.answer)
-}
-
-/// The line on what two readers have.
-fn verify_readers<T: Read, E: Read>(
-    alloc: Global,
-    traces: &mut T,
-    evidence: &mut E,
-) -> Result<Said, Fault>
-    ensures report { IfOk result (λ said. IsVerificationOfReaders (T.remaining traces.old) (E.remaining evidence.old) (string_bytes said.text) said.answer) }
-    ensures says { IfOk result (λ said. IfSome (T.remaining traces.old) (λ all. (t : TraceValue) → SpellsTrace all t → AnswerSays t said.answer)) }
-    ensures taken { IfOk result (λ _. LosesPrefix trace_read_limit (T.remaining traces.old) (T.remaining traces.new)) }
-    ensures taken_after { IfOk result (λ _. evidence.new ≡ evidence.old ⊎ LosesPrefix certificate_read_limit (E.remaining evidence.old) (E.remaining evidence.new)) }
-    ensures unread { IfSome (T.remaining traces.old) (λ trace. IsRefusedTrace trace → evidence.new ≡ evidence.old) }
-    ensures fault { IfErr result (λ fault. (fault ≡ Fault.OutOfMemory) ⊎ (fault ≡ Fault.Read)) }
-{
-    let input = read_all(alloc, traces, MAX_TEXT_BYTES)?;
-    match read_trace(alloc, &input) {
-        Ok(trace) => verify_reader(alloc, &trace, evidence),
-        Err(fault) => Ok(Said {
-            answer: Answer::Refused,
-            text: render_refusal(alloc, fault)?.text,
-        }),
-    }
-}
-
-/// The line on what a reader has of evidence, on a trace.
-fn verify_reader<E: Read>(alloc: Global, trace: &Trace, reader: &mut E) -> Result<Said, Fault>
-    ensures report { IfOk result (λ said. IsEvidenceReportOfReader trace.now (E.remaining reader.old) (string_bytes said.text) said.answer) }
-    ensures taken { IfOk result (λ _. LosesPrefix certificate_read_limit (E.remaining reader.old) (E.remaining reader.new)) }
-    ensures fault { IfErr result (λ fault. (fault ≡ Fault.OutOfMemory) ⊎ (fault ≡ Fault.Read)) }
-{
-    let input = read_cert_text(alloc, reader)?;
-    Ok(render_evidence(alloc, trace, &input)?)
+    check_evidence(alloc, &OrdersAndRefutations, traces, evidence, writer)
 }

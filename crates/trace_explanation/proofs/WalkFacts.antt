@@ -11,7 +11,7 @@ use Rattle.std.proofs.lemmas.Slice.Zip.{get_or-zip, length-zip}
 use Rattle.line_text.proofs.NumberFacts.{and_parts}
 use Rattle.tso_cert.specs.declared.steps.CertStep.{CertStep}
 use Rattle.trace_explanation.specs.declared.unfolded_cycles.EdgeKind.{EdgeKind}
-use Rattle.trace_explanation.specs.CycleShapes.{last_of}
+use Rattle.trace_explanation.specs.CycleShapes.{last_or_zero}
 use Rattle.trace_explanation.specs.Steps.{is_edge, links_of}
 use Rattle.trace_explanation.specs.UnfoldedCycles.{has_kind, is_of_kind, turned, walk_by}
 
@@ -26,7 +26,7 @@ turned-length cycle k within =
     length-append (drop (k + 1) cycle) (take (k + 1) cycle) ∙ (let dropped = length-drop (k + 1) cycle in let taken = length-take (k + 1) cycle in omega (arith, dropped, taken))
 
 -- the last number of a walk is where the edge begins
-turned-last : (cycle : List ℕ) (k : ℕ) → k < length cycle → last_of (turned cycle (k + 1)) ≡ get_or cycle k 0
+turned-last : (cycle : List ℕ) (k : ℕ) → k < length cycle → last_or_zero (turned cycle (k + 1)) ≡ get_or cycle k 0
 turned-last cycle k within =
     after (drop (k + 1) cycle) (take (k + 1) cycle) _ k (let dropped = length-drop (k + 1) cycle in let all = turned-length cycle k within in omega (arith, dropped, all))
     ∙ get_or-take (k + 1) cycle k 0 (omega arith)
@@ -55,12 +55,12 @@ turned-first cycle k within = ⊎_elim inner last (cases_lt (k + 1) (length cycl
 links-within : (cycle : List ℕ) (k : ℕ) → k < length (links_of cycle) → k < length cycle
 links-within cycle k within = let both = length-zip cycle (drop 1 cycle ++ take 1 cycle) in omega (arith, both, within)
 
-link-of-walk : (cycle : List ℕ) (k : ℕ) → k < length cycle → get_or (links_of cycle) k (0, 0) ≡ (last_of (turned cycle (k + 1)), get_or (turned cycle (k + 1)) 0 0)
+link-of-walk : (cycle : List ℕ) (k : ℕ) → k < length cycle → get_or (links_of cycle) k (0, 0) ≡ (last_or_zero (turned cycle (k + 1)), get_or (turned cycle (k + 1)) 0 0)
 link-of-walk cycle k within =
     let other : k < length (drop 1 cycle ++ take 1 cycle) =
     (let all = length-append (drop 1 cycle) (take 1 cycle) in let dropped = length-drop 1 cycle in let taken = length-take 1 cycle in omega (arith, all, dropped, taken)) in
     get_or-zip cycle (drop 1 cycle ++ take 1 cycle) k (0, 0) within other ∙ ap (λ x. (x, get_or (drop 1 cycle ++ take 1 cycle) k 0)) (sym (turned-last cycle k within))
-    ∙ ap (λ y. (last_of (turned cycle (k + 1)), y)) (sym (turned-first cycle k within))
+    ∙ ap (λ y. (last_or_zero (turned cycle (k + 1)), y)) (sym (turned-first cycle k within))
 
 -- ---- the step of its edge
 
@@ -87,14 +87,14 @@ kind-step steps kind link has = by_found (find (is_edge link) steps) refl has
         let (k, at, edge) = found-place (is_edge link) steps s found in
         let ends = and_parts (s.from == link.0) (s.to == link.1) edge in (k, s, at, grind (arith, nat_tests, ends.0), grind (arith, nat_tests, ends.1), is)
 
-pub walk-step : (steps : List CertStep) (kind : EdgeKind) (cycle walk : List ℕ) → walk_by steps kind cycle ≡ Some walk → HasStep steps kind (last_of walk, get_or walk 0 0)
+pub walk-step : (steps : List CertStep) (kind : EdgeKind) (cycle walk : List ℕ) → walk_by steps kind cycle ≡ Some walk → HasStep steps kind (last_or_zero walk, get_or walk 0 0)
 unfolding walk_by
 walk-step steps kind cycle walk found = by_place (position (has_kind steps kind) (links_of cycle)) refl found
   where
-    by_place : (o : Option ℕ) → position (has_kind steps kind) (links_of cycle) ≡ o → option_map (λ k. turned cycle (k + 1)) o ≡ Some walk → HasStep steps kind (last_of walk, get_or walk 0 0)
+    by_place : (o : Option ℕ) → position (has_kind steps kind) (links_of cycle) ≡ o → option_map (λ k. turned cycle (k + 1)) o ≡ Some walk → HasStep steps kind (last_or_zero walk, get_or walk 0 0)
     by_place None at here = absurd cc
     by_place (Some k) at here =
         let is = position-Some (has_kind steps kind) (links_of cycle) k (0, 0) at in
         let same : turned cycle (k + 1) ≡ walk = cc in
         let link = link-of-walk cycle k (links-within cycle k is.0) in
-        subst (λ w. HasStep steps kind (last_of w, get_or w 0 0)) same (kind-step steps kind _ (subst (λ e. has_kind steps kind e ≡ true) link is.1))
+        subst (λ w. HasStep steps kind (last_or_zero w, get_or w 0 0)) same (kind-step steps kind _ (subst (λ e. has_kind steps kind e ≡ true) link is.1))

@@ -8,7 +8,7 @@ use Rattle.tso_cert.specs.declared.steps.CertStep.{CertStep}
 use Rattle.tso_cert.specs.declared.steps.Reason.{Reason}
 use Rattle.tso_cert.specs.declared.steps.Reason.TheVariants.{Base, Inferred}
 use Rattle.trace_explanation.specs.declared.unfolded_cycles.EdgeKind.TheVariants.{FromRead}
-use Rattle.trace_explanation.specs.CycleShapes.{cycle_shape, last_of, on_one_processor}
+use Rattle.trace_explanation.specs.CycleShapes.{cycle_shape, last_or_zero, on_one_processor}
 use Rattle.trace_explanation.specs.Names.{address_at}
 use Rattle.trace_explanation.specs.Steps.{is_edge, links_of}
 use Rattle.trace_explanation.specs.UnfoldedCycles.{unfolded_cycle, walk_by}
@@ -22,7 +22,7 @@ reason_path (Inferred rule load path) = path
 
 -- the path on which the edge rests that closes a walk: of a from-read from what the load read to the store that it missed
 abbrev pub closing_path : List CertStep → List ℕ → List ℕ
-closing_path steps walk = option_map_or (λ s. reason_path s.reason) (find (is_edge (last_of walk, get_or walk 0 0)) steps) []
+closing_path steps walk = option_map_or (λ s. reason_path s.reason) (find (is_edge (last_or_zero walk, get_or walk 0 0)) steps) []
 
 -- the path as a cycle, unfolded, from the end of its first from-read if it has one
 abbrev pub closed_path : List CertStep → List ℕ → List ℕ
@@ -50,7 +50,7 @@ shows_order shape = bytes_eq shape (codes "Rfe PosRR Fre") || bytes_eq shape (co
 -- The walk from a store to a load that missed it only shows that this store comes before what the load read, and it is the path by which what the
 -- load read comes before the store that has the shape of the violation.
 unfoldable pub only_closes : TraceValue → List ℕ → List ℕ → Bool
-only_closes t walk path = nat_lt 0 (get_or path 0 0) && shows_order (cycle_shape t walk) && leaves_address t (address_at t (last_of walk)) path
+only_closes t walk path = nat_lt 0 (get_or path 0 0) && shows_order (cycle_shape t walk) && leaves_address t (address_at t (last_or_zero walk)) path
 
 -- the cycle that is named, of a walk from a store to a load that missed it, and the path to the store from what the load read
 abbrev pub stale_cycle : TraceValue → List CertStep → List ℕ → List ℕ → List ℕ

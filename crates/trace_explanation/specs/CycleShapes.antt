@@ -34,8 +34,8 @@ abbrev pub letter_of : TraceValue → ℕ → List ℕ
 letter_of t n = cond (is_load_at t n) (codes "R") (codes "W")
 
 -- program order from event b to event x, at one address or at two: nothing where they are of one operation
-unfoldable pub program_text : TraceValue → ℕ → ℕ → List ℕ
-program_text t b x =
+unfoldable pub program_order_text : TraceValue → ℕ → ℕ → List ℕ
+program_order_text t b x =
     cond (is_one_operation t b x) [] (codes "Po" ++ cond (address_at t b == address_at t x) (codes "s") (codes "d") ++ letter_of t b ++ letter_of t x ++ codes " ")
 
 -- from a load to a later store, from a store to a load that read it, or from a store to a later one
@@ -50,17 +50,17 @@ edge_text t x y = communication_text t x y ++ cond (on_one_processor t x y) (cod
 
 -- the edges from number x along these numbers, where the events of x's processor began with b
 unfoldable pub edges_after : TraceValue → ℕ → ℕ → List ℕ → List ℕ
-edges_after t b x [] = program_text t b x
-edges_after t b x (y ∷ rest) = cond (on_one_processor t x y) (edges_after t b y rest) (program_text t b x ++ edge_text t x y ++ codes " " ++ edges_after t y y rest)
+edges_after t b x [] = program_order_text t b x
+edges_after t b x (y ∷ rest) = cond (on_one_processor t x y) (edges_after t b y rest) (program_order_text t b x ++ edge_text t x y ++ codes " " ++ edges_after t y y rest)
 
 -- the last of these numbers
-abbrev pub last_of : List ℕ → ℕ
-last_of numbers = get_or numbers (length numbers - 1) 0
+abbrev pub last_or_zero : List ℕ → ℕ
+last_or_zero numbers = get_or numbers (length numbers - 1) 0
 
 -- the edges of a cycle, of which the last leads back to its first number
 unfoldable pub cycle_shape : TraceValue → List ℕ → List ℕ
 cycle_shape t [] = []
-cycle_shape t (x ∷ rest) = edges_after t x x rest ++ edge_text t (last_of (x ∷ rest)) x
+cycle_shape t (x ∷ rest) = edges_after t x x rest ++ edge_text t (last_or_zero (x ∷ rest)) x
 
 -- the name that stands beside this shape
 abbrev pub name_of : List ℕ → List (List ℕ × List ℕ) → Option (List ℕ)

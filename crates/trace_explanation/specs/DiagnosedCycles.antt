@@ -6,7 +6,7 @@ use Rattle.std.specs.List.{find}
 use Rattle.tso_ops.specs.Values.{TraceValue}
 use Rattle.tso_cert.specs.declared.steps.CertStep.{CertStep}
 use Rattle.trace_explanation.specs.ClosedPaths.{closing_path, stale_cycle}
-use Rattle.trace_explanation.specs.CycleShapes.{last_of}
+use Rattle.trace_explanation.specs.CycleShapes.{last_or_zero}
 use Rattle.trace_explanation.specs.Diagnoses.{is_direct, missed_path, stale_walk}
 use Rattle.trace_explanation.specs.Steps.{is_edge}
 use Rattle.trace_explanation.specs.UnfoldedCycles.{missed_walk, unfolded_cycle}
@@ -17,7 +17,7 @@ missed_cycle t walk path = cond (is_direct t walk) path walk
 
 -- the same by the steps
 abbrev pub missed_by_steps : TraceValue → List CertStep → List ℕ → List ℕ
-missed_by_steps t steps walk = option_map_or (λ s. missed_cycle t walk (missed_path t s.from s.to s.reason)) (find (is_edge (last_of walk, get_or walk 0 0)) steps) walk
+missed_by_steps t steps walk = option_map_or (λ s. missed_cycle t walk (missed_path t s.from s.to s.reason)) (find (is_edge (last_or_zero walk, get_or walk 0 0)) steps) walk
 
 -- the walk of which the diagnosis of this cycle says the shape, or the cycle itself where it has neither a from-read nor a missed store
 unfoldable pub named_cycle : TraceValue → List CertStep → List ℕ → List ℕ

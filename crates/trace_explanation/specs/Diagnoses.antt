@@ -15,7 +15,7 @@ use Rattle.trace_explanation.specs.ClosedPaths.{closing_path, is_torn, leaves_ad
 use Rattle.trace_explanation.specs.Names.{address_at, source_of}
 use Rattle.trace_explanation.specs.Namings.{address_named, line_named, processor_named, NamingValue}
 use Rattle.trace_explanation.specs.Steps.{is_edge, is_number, links_of, own_load}
-use Rattle.trace_explanation.specs.CycleShapes.{cycle_shape, is_load_at, is_one_operation, last_of, on_one_processor, shape_text}
+use Rattle.trace_explanation.specs.CycleShapes.{cycle_shape, is_load_at, is_one_operation, last_or_zero, on_one_processor, shape_text}
 use Rattle.trace_explanation.specs.UnfoldedCycles.{missed_walk, unfolded_cycle, walk_by}
 
 -- ---- events in short
@@ -74,7 +74,7 @@ order_words naming w s =
 -- a walk from a store to a load that read something older than that store, with what is said of the two stores; the cycle has this shape
 unfoldable pub stale_line : NamingValue → TraceValue → List ℕ → List ℕ → List ℕ → List ℕ
 stale_line naming t shape walk order = joined (
-    codes "\n" ∷ load_words naming (last_of walk) ∷ codes " from before " ∷ store_words naming t (last_of walk) (get_or walk 0 0) ∷ before_words naming t walk (get_or walk 0 0) (last_of walk) ∷ order
+    codes "\n" ∷ load_words naming (last_or_zero walk) ∷ codes " from before " ∷ store_words naming t (last_or_zero walk) (get_or walk 0 0) ∷ before_words naming t walk (get_or walk 0 0) (last_or_zero walk) ∷ order
     ∷ codes ": " ∷ shape_text shape ∷ codes ".\n" ∷ [])
 
 -- the same by the path to the store from what the load read
@@ -89,26 +89,26 @@ missed_path t u v (Inferred rule load path) = path
 
 -- The walk leads from the first values, or is about one address: then the path alone has the cycle's shape.
 abbrev pub is_direct : TraceValue → List ℕ → Bool
-is_direct t walk = (get_or walk 0 0 == 0) || not (leaves_address t (address_at t (last_of walk)) walk)
+is_direct t walk = (get_or walk 0 0 == 0) || not (leaves_address t (address_at t (last_or_zero walk)) walk)
 
 -- A walk to a store from what a load read, which sees that store by this path. Where the walk has the cycle's shape, the load only shows that the
 -- store comes before what it read.
 abbrev pub missed_by : NamingValue → TraceValue → List ℕ → List ℕ → List ℕ
 missed_by naming t walk path =
-    cond (is_direct t walk) (stale_line naming t (cycle_shape t path) path []) (stale_line naming t (cycle_shape t walk) path (order_words naming (last_of walk) (get_or walk 0 0)))
+    cond (is_direct t walk) (stale_line naming t (cycle_shape t path) path []) (stale_line naming t (cycle_shape t walk) path (order_words naming (last_or_zero walk) (get_or walk 0 0)))
 
 -- the same by the steps
 unfoldable pub missed_line : NamingValue → TraceValue → List CertStep → List ℕ → List ℕ
 missed_line naming t steps walk =
-    option_map_or (λ s. missed_by naming t walk (missed_path t s.from s.to s.reason)) (find (is_edge (last_of walk, get_or walk 0 0)) steps) []
+    option_map_or (λ s. missed_by naming t walk (missed_path t s.from s.to s.reason)) (find (is_edge (last_or_zero walk, get_or walk 0 0)) steps) []
 
 -- this path, by which a load sees the store that it missed, begins on the load's processor or goes over another address
 abbrev pub tells_more : TraceValue → ℕ → List ℕ → Bool
-tells_more t u path = on_one_processor t u (last_of path) || leaves_address t (address_at t u) path
+tells_more t u path = on_one_processor t u (last_or_zero path) || leaves_address t (address_at t u) path
 
 -- the path does by which a load sees the store that it missed, to which this walk leads from what it read
 abbrev pub misses_more : TraceValue → List CertStep → List ℕ → Bool
-misses_more t steps walk = option_map_or (λ s. tells_more t (last_of walk) (missed_path t s.from s.to s.reason)) (find (is_edge (last_of walk, get_or walk 0 0)) steps) false
+misses_more t steps walk = option_map_or (λ s. tells_more t (last_or_zero walk) (missed_path t s.from s.to s.reason)) (find (is_edge (last_or_zero walk, get_or walk 0 0)) steps) false
 
 -- in the cycle the walk from a store to a swap's load that missed it only shows that these stores have two orders, and another load missed one of them
 abbrev pub gives_way : TraceValue → List CertStep → List ℕ → List ℕ → Bool
@@ -122,7 +122,7 @@ stale_walk t steps cycle = option_map_or (λ walk. cond (gives_way t steps cycle
 -- a walk from a load to a store that it read
 unfoldable pub future_line : NamingValue → TraceValue → List ℕ → List ℕ
 future_line naming t walk = joined (
-    codes "\n" ∷ load_words naming (get_or walk 0 0) ∷ codes " from " ∷ store_words naming t (get_or walk 0 0) (last_of walk) ∷ codes ", though that store comes after the load "
+    codes "\n" ∷ load_words naming (get_or walk 0 0) ∷ codes " from " ∷ store_words naming t (get_or walk 0 0) (last_or_zero walk) ∷ codes ", though that store comes after the load "
     ∷ place_words naming (get_or walk 0 0) ∷ codes ": " ∷ shape_text (cycle_shape t walk) ∷ codes ".\n" ∷ [])
 
 -- of the first load that read something older than a store of the cycle, or missed one, or read from a later store

@@ -72,8 +72,8 @@ cycle_text naming t steps cycle =
 -- ---- an unwritten load
 
 -- the stores to the address
-abbrev pub stores_to : TraceValue → ℕ → List ℕ
-stores_to t a = filter (is_store_where t (λ e. e.a == a)) (event_numbers t)
+abbrev pub store_numbers : TraceValue → ℕ → List ℕ
+store_numbers t a = filter (is_store_where t (λ e. e.a == a)) (event_numbers t)
 
 -- where the value was stored instead: by store m
 abbrev pub elsewhere_text : NamingValue → TraceValue → ℕ → ℕ → List ℕ
@@ -91,14 +91,14 @@ stores_text naming t a (m ∷ others) =
     joined (codes "The stores to address " ∷ decimal a ∷ codes ", " ∷ decimal (length (m ∷ others)) ∷ codes " in all:\n\n" ∷ []) ++ flat_map (place_text naming t) (take 16 (m ∷ others)) ++ more_text (length (m ∷ others))
 
 -- what load n read
-unfoldable pub unread_text : NamingValue → TraceValue → ℕ → Event → List ℕ
-unread_text naming t n e = joined (
+unfoldable pub unwritten_load_text : NamingValue → TraceValue → ℕ → Event → List ℕ
+unwritten_load_text naming t n e = joined (
     codes "\nA load read a value that nothing wrote to its address:\n\n  line " ∷ decimal (line_named naming n) ∷ codes ": " ∷ name_text naming n ∷ codes " read " ∷ decimal e.value ∷ codes "\n\nThe first value of address " ∷ decimal (address_named naming n) ∷ codes " is " ∷ decimal (first_value t.setting.first e.a) ∷ codes ".\n" ∷ [])
 
 -- the explanation of load n, by its event
 abbrev pub unwritten_by : NamingValue → TraceValue → ℕ → Event → List ℕ
 unwritten_by naming t n e =
-    unread_text naming t n e ++ option_map_or (elsewhere_text naming t e.value) (find (is_store_where t (λ s. s.value == e.value)) (event_numbers t)) [] ++ stores_text naming t (address_named naming n) (stores_to t e.a)
+    unwritten_load_text naming t n e ++ option_map_or (elsewhere_text naming t e.value) (find (is_store_where t (λ s. s.value == e.value)) (event_numbers t)) [] ++ stores_text naming t (address_named naming n) (store_numbers t e.a)
 
 -- ---- the explanation
 

@@ -38,18 +38,18 @@ abbrev pub hex_digit : ℕ → ℕ
 hex_digit d = cond (nat_lt d 10) (48 + d) (87 + d)
 
 -- a byte as it is, where it is a character of ASCII that shows, else by its number
-abbrev pub shown_byte : ℕ → List ℕ
-shown_byte b = cond (nat_le 32 b && nat_le b 126) (b ∷ []) (92 ∷ 120 ∷ hex_digit (b / 16) ∷ hex_digit (b % 16) ∷ [])
+abbrev pub rendered_byte : ℕ → List ℕ
+rendered_byte b = cond (nat_le 32 b && nat_le b 126) (b ∷ []) (92 ∷ 120 ∷ hex_digit (b / 16) ∷ hex_digit (b % 16) ∷ [])
 
 -- a line, of which the first 60 bytes are shown
-unfoldable pub shown_line : List ℕ → List ℕ
-shown_line line = flat_map shown_byte (take 60 line) ++ cond (nat_lt 60 (length line)) (codes "..") []
+unfoldable pub rendered_line : List ℕ → List ℕ
+rendered_line line = flat_map rendered_byte (take 60 line) ++ cond (nat_lt 60 (length line)) (codes "..") []
 
 -- the line of this number, from 1; line 0 is the text as a whole
-unfoldable pub line_shown : List ℕ → ℕ → List ℕ
-line_shown text zero = []
-line_shown text (suc k) = option_map_or (λ line. codes "Line " ++ decimal (suc k) ++ codes " is '" ++ shown_line line ++ codes "'.\n") (line_there (parts_of text) k) []
+unfoldable pub numbered_line : List ℕ → ℕ → List ℕ
+numbered_line text zero = []
+numbered_line text (suc k) = option_map_or (λ line. codes "Line " ++ decimal (suc k) ++ codes " is '" ++ rendered_line line ++ codes "'.\n") (line_there (parts_of text) k) []
 
 -- what is said of a text that is refused at this line
 unfoldable pub refusal_explanation : List ℕ → ℕ → Why → List ℕ
-refusal_explanation text line why = codes "\n" ++ line_shown text line ++ refusal_sentence why
+refusal_explanation text line why = codes "\n" ++ numbered_line text line ++ refusal_sentence why

@@ -25,16 +25,16 @@ without_last path = take (length path - 1) path
 -- What stands for number u of the cycle and its inferred edge, up to the number that the edge leads to: u by itself; where a cycle comes to a load from
 -- what it read, and goes on to a store that the load doesn't see, the path from the one to the other; where no store comes between a swap's load and its
 -- store, the path to the store or from the load.
-unfoldable pub numbers_of : List (ℕ × ℕ) → ℕ → InferredRule → List ℕ → List ℕ
-numbers_of links u LoadPast path = u ∷ []
-numbers_of links u StorePast path = cond (is_link links (get_or path 0 0) u) (drop 1 (without_last path)) (u ∷ [])
-numbers_of links u SwapBefore path = path
-numbers_of links u SwapAfter path = u ∷ without_last path
+unfoldable pub unfolded_numbers : List (ℕ × ℕ) → ℕ → InferredRule → List ℕ → List ℕ
+unfolded_numbers links u LoadPast path = u ∷ []
+unfolded_numbers links u StorePast path = cond (is_link links (get_or path 0 0) u) (drop 1 (without_last path)) (u ∷ [])
+unfolded_numbers links u SwapBefore path = path
+unfolded_numbers links u SwapAfter path = u ∷ without_last path
 
 -- the same by the reason of the edge
 abbrev pub reason_numbers : List (ℕ × ℕ) → ℕ → Reason → List ℕ
 reason_numbers links u (Base rule) = u ∷ []
-reason_numbers links u (Inferred rule load path) = numbers_of links u rule path
+reason_numbers links u (Inferred rule load path) = unfolded_numbers links u rule path
 
 -- the same by the first step that is the edge
 abbrev pub link_numbers : List (ℕ × ℕ) → List CertStep → ℕ × ℕ → List ℕ

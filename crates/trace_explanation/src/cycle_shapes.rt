@@ -2,7 +2,7 @@
 ghost use Rattle.std.specs.Prelude.{◌≡◌, ◌==◌, ◌&&◌, ◌++◌, suc, string_bytes, OnOk, IfOk};
 ghost use Rattle.trace_explanation.specs.Names.{source_of};
 ghost use Rattle.trace_explanation.specs.Steps.{is_number};
-ghost use Rattle.trace_explanation.specs.CycleShapes.{communication_text, cycle_shape, edge_text, edges_after, is_load_at, is_one_operation, is_swap_load_at, last_of, letter_of, on_one_processor, program_text};
+ghost use Rattle.trace_explanation.specs.CycleShapes.{communication_text, cycle_shape, edge_text, edges_after, is_load_at, is_one_operation, is_swap_load_at, last_or_zero, letter_of, on_one_processor, program_order_text};
 
 use crate::names::{address_of, source_of};
 use crate::unfolded_cycles::item;
@@ -29,7 +29,7 @@ pub(crate) fn cycle_shape(alloc: Global, trace: &Trace, cycle: &[u64]) -> Result
 
 /// The last of these numbers: 0 where there is none.
 pub(crate) fn last_of(numbers: &[u64]) -> u64
-    ensures { result ≡ last_of numbers.now }
+    ensures { result ≡ last_or_zero numbers.now }
 {
     item(numbers, numbers.len().saturating_sub(1))
 }
@@ -60,14 +60,14 @@ fn push_edges(
 }
 
 /// Appends program order between two events of a processor: nothing where they are of one operation.
-#[tactic(auto, unfolding(crate::specs::CycleShapes::program_text))]
+#[tactic(auto, unfolding(crate::specs::CycleShapes::program_order_text))]
 fn push_program_order(
     text: &mut String,
     trace: &Trace,
     begin: usize,
     last: usize,
 ) -> Result<(), AllocError>
-    ensures { OnOk result (string_bytes text.new ≡ string_bytes text.old ++ program_text trace.now begin last) }
+    ensures { OnOk result (string_bytes text.new ≡ string_bytes text.old ++ program_order_text trace.now begin last) }
 {
     if is_one_operation(trace, begin, last) {
         return Ok(());

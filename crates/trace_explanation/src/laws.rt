@@ -19,7 +19,7 @@ ghost use Rattle.trace_explanation.specs.Lines.{ended_line, text_lines};
 ghost use Rattle.trace_explanation.specs.Names.{outcome_text};
 ghost use Rattle.tso_ops.specs.Operations.{operation_at};
 ghost use Rattle.trace_explanation.specs.Claims.{BaseSays, InferredSays, LoadPastToInitSays, OwnToInitSays};
-ghost use Rattle.trace_explanation.specs.CycleShapes.{last_of};
+ghost use Rattle.trace_explanation.specs.CycleShapes.{last_or_zero};
 ghost use Rattle.trace_explanation.specs.Steps.{own_load, step_number};
 ghost use Rattle.trace_explanation.specs.UnfoldedCycles.{is_of_kind, walk_by};
 ghost use Rattle.trace_explanation.specs.declared.unfolded_cycles.EdgeKind.{EdgeKind};
@@ -85,5 +85,5 @@ pub fn operations_stand_on_their_lines()
 /// comes from. For what it says of them see the laws on the sentences of that step's rule.
 pub fn diagnoses_rest_on_steps()
     ensures { (steps : List CertStep) (kind : EdgeKind) (cycle walk : List ℕ) → walk_by steps kind cycle ≡ Some walk →
-        (k : ℕ) × (s : CertStep) × (slice_get steps k ≡ Some s) × (s.from ≡ last_of walk) × (s.to ≡ get_or walk 0 0) × (is_of_kind kind s.reason ≡ true) }
+        (k : ℕ) × (s : CertStep) × (slice_get steps k ≡ Some s) × (s.from ≡ last_or_zero walk) × (s.to ≡ get_or walk 0 0) × (is_of_kind kind s.reason ≡ true) }
 {}

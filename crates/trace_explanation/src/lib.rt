@@ -1,7 +1,7 @@
 //! The explanation of a trace: the text that says to a reader who knows no rule why a trace is a violation.
 //!
 //! `explain` writes it by the trace and its certificate, `explain_named` with the names that a log gives; `AsExplanation` is the
-//! rendering for `trace_judging::judge_with`.
+//! rendering for `trace_judging::answer_reader`.
 //! `README.md` says what is proved.
 #![tactic(auto)]
 
@@ -11,7 +11,7 @@ pub use explanations::{explain, explain_named};
 pub use field_edges::{FieldEdge, field_edge, field_name};
 pub use links::list_links;
 pub use loads::step_load;
-pub use marks::{mark, mark_step};
+pub use marks::{mark_number, mark_step};
 pub use names::{NamedTrace, address_of, outcome_text, part_text, source_of};
 pub use namings::EventNames;
 pub use numbers::NumberedSteps;

@@ -45,15 +45,15 @@ pub fn mark_step(trace: &Trace, step: &CertStep, marks: &mut Vec<bool>)
     ensures length { length marks.new.items ≡ length marks.old.items }
     ensures marked { (n : ℕ) → n < length marks.old.items → get_or marks.new.items n false ≡ (is_among n (step_numbers trace.now step.now) || get_or marks.old.items n false) }
 {
-    mark(marks, step.from as usize);
-    mark(marks, step.to as usize);
+    mark_number(marks, step.from as usize);
+    mark_number(marks, step.to as usize);
     if let Some(load) = step_load(trace, step) {
-        mark(marks, load);
+        mark_number(marks, load);
     }
 }
 
 /// Marks a number; nothing where it is past the end.
-pub fn mark(marks: &mut Vec<bool>, number: usize)
+pub fn mark_number(marks: &mut Vec<bool>, number: usize)
     ensures length { length marks.new.items ≡ length marks.old.items }
     ensures marked { (n : ℕ) → n < length marks.old.items → get_or marks.new.items n false ≡ (number == n || get_or marks.old.items n false) }
 {

@@ -3,7 +3,7 @@ ghost use Rattle.std.specs.Prelude.{◌≡◌, ◌++◌, ◌<◌, ℕ, length, s
 ghost use Rattle.std.specs.List.{flat_map};
 ghost use Rattle.std.specs.Option.{option_copied};
 ghost use Rattle.line_text.specs.Lines.{parts_of};
-ghost use Rattle.trace_explanation.specs.Refusals.{hex_digit, line_shown, line_there, refusal_explanation, refusal_sentence, shown_byte, shown_line};
+ghost use Rattle.trace_explanation.specs.Refusals.{hex_digit, line_there, numbered_line, refusal_explanation, refusal_sentence, rendered_byte, rendered_line};
 
 use crate::prefixes::first_of;
 use crate::refusal_sentences::{
@@ -25,14 +25,14 @@ pub fn explain_refusal(text: &mut String, input: &[u8], fault: TextFault) -> Res
     ensures { OnOk result (string_bytes text.new ≡ string_bytes text.old ++ refusal_explanation input.now fault.line fault.why) }
 {
     text.push_str("\n")?;
-    push_line_shown(text, input, fault.line)?;
+    push_numbered_line(text, input, fault.line)?;
     text.push_str(refusal_sentence(fault.why))
 }
 
 /// Appends the line of this number, from 1; nothing for 0, and where there is no such line.
-#[tactic(auto, unfolding(crate::specs::Refusals::line_shown))]
-fn push_line_shown(text: &mut String, input: &[u8], number: usize) -> Result<(), AllocError>
-    ensures { OnOk result (string_bytes text.new ≡ string_bytes text.old ++ line_shown input.now number) }
+#[tactic(auto, unfolding(crate::specs::Refusals::numbered_line))]
+fn push_numbered_line(text: &mut String, input: &[u8], number: usize) -> Result<(), AllocError>
+    ensures { OnOk result (string_bytes text.new ≡ string_bytes text.old ++ numbered_line input.now number) }
 {
     if number == 0 {
         return Ok(());
@@ -40,7 +40,7 @@ fn push_line_shown(text: &mut String, input: &[u8], number: usize) -> Result<(),
     match line_there(input, number - 1) {
         Some(line) => {
             write!(text, "Line {number} is '")?;
-            push_shown(text, line)?;
+            push_rendered_line(text, line)?;
             text.push_str("'.\n")
         },
         None => Ok(()),
@@ -65,9 +65,9 @@ fn line_there(input: &[u8], place: usize) -> Option<&[u8]>
 }
 
 /// Appends a line, of which the first 60 bytes are shown.
-#[tactic(auto, unfolding(crate::specs::Refusals::shown_line))]
-fn push_shown(text: &mut String, line: &[u8]) -> Result<(), AllocError>
-    ensures { OnOk result (string_bytes text.new ≡ string_bytes text.old ++ shown_line line.now) }
+#[tactic(auto, unfolding(crate::specs::Refusals::rendered_line))]
+fn push_rendered_line(text: &mut String, line: &[u8]) -> Result<(), AllocError>
+    ensures { OnOk result (string_bytes text.new ≡ string_bytes text.old ++ rendered_line line.now) }
 {
     push_bytes(text, first_of(line, SHOWN_BYTES))?;
     if line.len() > SHOWN_BYTES {
@@ -79,7 +79,7 @@ fn push_shown(text: &mut String, line: &[u8]) -> Result<(), AllocError>
 
 /// Appends these bytes as they are shown.
 fn push_bytes(text: &mut String, bytes: &[u8]) -> Result<(), AllocError>
-    ensures { OnOk result (string_bytes text.new ≡ string_bytes text.old ++ flat_map shown_byte bytes.now) }
+    ensures { OnOk result (string_bytes text.new ≡ string_bytes text.old ++ flat_map rendered_byte bytes.now) }
 {
     for byte in bytes {
         push_byte(text, *byte)?;
@@ -89,7 +89,7 @@ fn push_bytes(text: &mut String, bytes: &[u8]) -> Result<(), AllocError>
 
 /// Appends a byte as it is shown.
 fn push_byte(text: &mut String, byte: u8) -> Result<(), AllocError>
-    ensures { OnOk result (string_bytes text.new ≡ string_bytes text.old ++ shown_byte byte) }
+    ensures { OnOk result (string_bytes text.new ≡ string_bytes text.old ++ rendered_byte byte) }
 {
     if (32..=126).contains(&byte) {
         text.push(char::from(byte))

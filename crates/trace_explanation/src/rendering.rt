@@ -12,12 +12,12 @@ use tso_text::TextFault;
 #[derive(Clone, Copy)]
 pub struct AsExplanation;
 
-impl Rendering for AsExplanation {
-    ghost said = { explained };
+impl Rendering<Trace, Finding> for AsExplanation {
+    ghost rendered = { λ form. explained };
 
-    ghost refused = { refusal_explained };
+    ghost refused = { λ form. refusal_explained };
 
-    fn text_of_trace(
+    fn text_of_found(
         &self,
         alloc: Global,
         trace: &Trace,
@@ -39,5 +39,5 @@ impl Rendering for AsExplanation {
         Ok(text)
     }
 
-    ghost whole = { whole_explained };
+    ghost whole = { λ form. whole_explained };
 }

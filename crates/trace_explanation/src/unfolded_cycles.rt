@@ -1,7 +1,7 @@
 //! The cycle of a certificate, unfolded, and walks around it.
 ghost use Rattle.std.specs.Prelude.{◌≡◌, ◌++◌, ◌∷◌, [], drop, get_or, position, IfOk, OnOk};
 ghost use Rattle.std.specs.Option.{option_copied, option_map, option_map_or};
-ghost use Rattle.trace_explanation.specs.UnfoldedCycles.{has_kind, is_link, is_of_kind, link_numbers, missed_walk, numbers_of, reason_numbers, turned, unfolded_cycle, walk_by, without_last};
+ghost use Rattle.trace_explanation.specs.UnfoldedCycles.{has_kind, is_link, is_of_kind, link_numbers, missed_walk, reason_numbers, turned, unfolded_cycle, unfolded_numbers, walk_by, without_last};
 
 use crate::links::list_links;
 use crate::numbers::NumberedSteps;
@@ -72,7 +72,7 @@ fn push_numbers(
 }
 
 /// Pushes what stands for number `u` of the cycle and its inferred edge, which has this path.
-#[tactic(auto, unfolding(crate::specs::UnfoldedCycles::numbers_of))]
+#[tactic(auto, unfolding(crate::specs::UnfoldedCycles::unfolded_numbers))]
 fn push_path(
     numbers: &mut Vec<u64>,
     links: &[(u64, u64)],
@@ -80,7 +80,7 @@ fn push_path(
     rule: InferredRule,
     path: &[u64],
 ) -> Result<(), AllocError>
-    ensures { OnOk result (numbers.new.items ≡ numbers.old.items ++ numbers_of links.now u rule path.now) }
+    ensures { OnOk result (numbers.new.items ≡ numbers.old.items ++ unfolded_numbers links.now u rule path.now) }
 {
     match rule {
         InferredRule::LoadPast => Ok(numbers.push(u)?),

@@ -6,7 +6,7 @@ ghost use Rattle.tso_ops.specs.Events.{event_at};
 ghost use Rattle.trace_explanation.specs.Names.{event_numbers, is_store_where};
 ghost use Rattle.trace_explanation.specs.Namings.{address_named};
 ghost use Rattle.trace_explanation.specs.Places.{place_text};
-ghost use Rattle.trace_explanation.specs.Explanations.{elsewhere_text, more_text, stores_text, stores_to, unread_text, unwritten_by};
+ghost use Rattle.trace_explanation.specs.Explanations.{elsewhere_text, more_text, store_numbers, stores_text, unwritten_by, unwritten_load_text};
 
 use crate::names::NamedTrace;
 use crate::prefixes::first_of;
@@ -38,14 +38,14 @@ pub(crate) fn push_unwritten(
 }
 
 /// Appends what load `n` read, and the first value of its address.
-#[tactic(auto, unfolding(crate::specs::Explanations::unread_text))]
+#[tactic(auto, unfolding(crate::specs::Explanations::unwritten_load_text))]
 fn push_unread(
     text: &mut String,
     named: &NamedTrace<'_>,
     n: usize,
     event: Event,
 ) -> Result<(), AllocError>
-    ensures { OnOk result (string_bytes text.new ≡ string_bytes text.old ++ unread_text named.now.names.now named.now.trace.now n event) }
+    ensures { OnOk result (string_bytes text.new ≡ string_bytes text.old ++ unwritten_load_text named.now.names.now named.now.trace.now n event) }
 {
     let line = named.names.line(n);
     let name = named.names.name(n);
@@ -126,7 +126,7 @@ fn is_store_to(trace: &Trace, a: u16, m: usize) -> bool
 
 /// The stores to the address, in the order of their numbers. OutOfMemory where an allocation was refused.
 pub fn list_stores(alloc: Global, trace: &Trace, a: u16) -> Result<Vec<usize>, AllocError>
-    ensures { IfOk result (λ stores. stores.items ≡ stores_to trace.now a) }
+    ensures { IfOk result (λ stores. stores.items ≡ store_numbers trace.now a) }
 {
     let mut stores = Vec::new(alloc);
     for m in 0..trace.events() {
@@ -145,7 +145,7 @@ fn push_stores(
     n: usize,
     a: u16,
 ) -> Result<(), AllocError>
-    ensures { OnOk result (string_bytes text.new ≡ string_bytes text.old ++ stores_text named.now.names.now named.now.trace.now (address_named named.now.names.now n) (stores_to named.now.trace.now a)) }
+    ensures { OnOk result (string_bytes text.new ≡ string_bytes text.old ++ stores_text named.now.names.now named.now.trace.now (address_named named.now.names.now n) (store_numbers named.now.trace.now a)) }
 {
     let stores = list_stores(alloc, named.trace, a)?;
     push_store_lines(alloc, text, named, named.names.address(n), &stores)

@@ -1,9 +1,9 @@
 -- The report of two texts, that of a trace and that of a certificate: what is written for them, and the verdict that it gives.
-use Rattle.std.specs.Prelude.{◌≡◌, ◌⊎◌, ℕ, ◌≤◌, List, [], ◌∷◌, ◌++◌, length, codes, Option}
+use Rattle.std.specs.Prelude.{◌≡◌, ◌⊎◌, ℕ, List, [], ◌∷◌, ◌++◌, codes}
 use Rattle.std.specs.Fmt.{decimal}
 use Rattle.tso_ops.specs.Values.{TraceValue}
 use Rattle.tso_text.specs.Texts.{SpellsTrace}
-use Rattle.tso_cert.specs.declared.faults.Why.{Why}
+use Rattle.tso_cert.specs.declared.faults.CertificateRefusal.{CertificateRefusal}
 use Rattle.tso_cert.specs.RefusalNames.{certificate_refusal_name}
 use Rattle.tso_cert.specs.declared.steps.Certificate.{Certificate}
 use Rattle.tso_cert.specs.Spelling.{SpellsCertificate, IsCertTextRefusal}
@@ -13,20 +13,17 @@ use Rattle.cert_check.specs.declared.faults.CertFault.TheVariants.{EventRange, N
 use Rattle.cert_check.specs.Refusals.{IsCertRefusal}
 use Rattle.trace_reports.specs.declared.verdicts.Verdict.{Verdict}
 use Rattle.trace_reports.specs.declared.verdicts.Verdict.TheVariants.{Violation, Refused}
-use Rattle.trace_judging.specs.Limits.{certificate_byte_limit}
-use Rattle.text_streams.specs.Readings.{ReadsAs}
-use Rattle.trace_reports.specs.Renderings.{IsTextOfRefusal}
-use Rattle.trace_reports.specs.Reports.{refusal_shown}
+use Rattle.trace_judging.specs.Evidence.{IsReportOfTexts}
 
 -- ---- texts
 
 -- the line of a certificate that holds
-abbrev pub holds_text : List ℕ
-holds_text = codes "CERTIFICATE HOLDS" ++ 10 ∷ []
+abbrev pub certificate_holds_text : List ℕ
+certificate_holds_text = codes "CERTIFICATE HOLDS" ++ 10 ∷ []
 
 -- the line of a refused text of a certificate
-abbrev pub unread_text : ℕ → Why → List ℕ
-unread_text line why = codes "CERTIFICATE REFUSED " ++ certificate_refusal_name why ++ codes " line " ++ decimal line ++ 10 ∷ []
+abbrev pub certificate_refusal_text : ℕ → CertificateRefusal → List ℕ
+certificate_refusal_text line why = codes "CERTIFICATE REFUSED " ++ certificate_refusal_name why ++ codes " line " ++ decimal line ++ 10 ∷ []
 
 -- the refusal of a certificate, with its step where it has one
 abbrev pub fault_text : CertFault → List ℕ
@@ -50,7 +47,7 @@ SpellsHolding t input = (c : Certificate) × SpellsCertificate input c × Holds 
 
 -- it is refused as a text
 abbrev pub IsUnreadReport : List ℕ → List ℕ → Type 0
-IsUnreadReport input text = (line : ℕ) × (why : Why) × IsCertTextRefusal input line why × (text ≡ unread_text line why)
+IsUnreadReport input text = (line : ℕ) × (why : CertificateRefusal) × IsCertTextRefusal input line why × (text ≡ certificate_refusal_text line why)
 
 -- it is the text of a certificate that doesn't hold for the trace
 abbrev pub IsFailureReport : TraceValue → List ℕ → List ℕ → Type 0
@@ -59,20 +56,15 @@ IsFailureReport t input text = (c : Certificate) × (fault : CertFault) × Spell
 -- The text is the report of a certificate's text on the trace.
 abbrev pub IsCertReport : TraceValue → List ℕ → List ℕ → Verdict → Type 0
 IsCertReport t input text verdict =
-    (SpellsHolding t input × (text ≡ holds_text) × (verdict ≡ Violation))
+    (SpellsHolding t input × (text ≡ certificate_holds_text) × (verdict ≡ Violation))
     ⊎ ((IsFailureReport t input text ⊎ IsUnreadReport input text) × (verdict ≡ Refused))
 
 -- ---- the report of two texts
 
--- The text is the report of both: that of the certificate's text, which keeps its limit, on the trace that the first spells; or
--- that of the first one's refusal.
+-- the text is the report of a trace's and a certificate's text
 abbrev pub IsCheckReport : List ℕ → List ℕ → List ℕ → Verdict → Type 0
-IsCheckReport trace cert text verdict = ((t : TraceValue) × SpellsTrace trace t × (length cert ≤ certificate_byte_limit) × IsCertReport t cert text verdict) ⊎ IsTextOfRefusal refusal_shown trace text verdict
+IsCheckReport trace cert text verdict = IsReportOfTexts IsCertReport Refused trace cert text verdict
 
 -- the texts are those of a trace and of a certificate that holds for it
 abbrev pub SpellHolding : List ℕ → List ℕ → Type 0
 SpellHolding trace cert = (t : TraceValue) × SpellsTrace trace t × SpellsHolding t cert
-
--- The text is the report on the trace of the bytes of a reader, which keep their limit.
-abbrev pub IsCertReportOfReader : TraceValue → Option (List ℕ) → List ℕ → Verdict → Type 0
-IsCertReportOfReader t remaining text verdict = ReadsAs remaining (λ cert. (length cert ≤ certificate_byte_limit) × IsCertReport t cert text verdict)

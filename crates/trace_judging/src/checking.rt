@@ -1,5 +1,5 @@
-//! The way of a trace and a certificate: read and parse the one, then the other, check, render, write.
-ghost use Rattle.std.specs.Prelude.{◌≡◌, ◌≢◌, ◌⊎◌, ◌↔◌, ◌≤◌, length, take, string_bytes, IfSome, IfOk, IfErr};
+//! The check of a certificate's text against a trace's.
+ghost use Rattle.std.specs.Prelude.{◌≡◌, ◌≢◌, ◌⊎◌, ◌↔◌, IfSome, IfOk, IfErr};
 ghost use Rattle.tso_ops.specs.Values.{TraceValue};
 ghost use Rattle.tso_text.specs.Refusals.{IsRefusedTrace};
 ghost use Rattle.tso_text.specs.Texts.{SpellsTrace};
@@ -7,22 +7,18 @@ ghost use Rattle.trace_streams.specs.Limits.{trace_read_limit};
 ghost use Rattle.tso_model.specs.Axioms.{IsConsistent};
 ghost use Rattle.text_streams.specs.declared.faults.Fault.{Fault};
 ghost use Rattle.trace_reports.specs.declared.verdicts.Verdict.{Verdict};
-ghost use Rattle.trace_judging.specs.Checks.{IsCertReportOfReader, SpellHolding};
-ghost use Rattle.trace_judging.specs.Limits.{certificate_byte_limit, certificate_read_limit};
+ghost use Rattle.trace_judging.specs.Checks.{SpellHolding};
+ghost use Rattle.trace_judging.specs.Limits.{certificate_read_limit};
 ghost use Rattle.text_streams.specs.Streams.{LosesPrefix};
 ghost use Rattle.trace_judging.specs.WrittenReports.{IsCheckReportOfReaders};
 ghost use Rattle.text_streams.specs.WrittenTexts.{LeavesAtFault, WritesWhole};
 
-use crate::cert_rendering::render_check;
+use crate::cert_rendering::Certificates;
+use crate::evidence::check_evidence;
 use std::alloc::Global;
 use std::io::{Read, Write};
-use text_streams::{Fault, read_all, write_text};
-use trace_reports::{Report, Verdict, render_refusal};
-use tso_ops::Trace;
-use tso_text::{MAX_TEXT_BYTES, read_trace};
-
-/// The greatest number of bytes of a certificate's text.
-pub const MAX_CERTIFICATE_BYTES: usize = 67_108_864;
+use text_streams::Fault;
+use trace_reports::Verdict;
 
 /// Checks a certificate against a trace: reads the text of the trace, then that of the certificate, builds the whole
 /// report of both, and then writes it.
@@ -49,52 +45,5 @@ pub fn check_texts<T: Read, C: Read, W: Write>(
     ensures fault { IfErr result (LeavesAtFault (IsCheckReportOfReaders (T.remaining trace_reader.old) (C.remaining cert_reader.old)) (W.contents writer.old) (W.contents writer.new)) }
     ensures no_thread { IfErr result (λ fault. fault ≢ Fault.NoThread) }
 {
-    let report = read_texts(alloc, trace_reader, cert_reader)?;
-    write_text(writer, report.text.as_bytes())?;
-    Ok(report.verdict)
-}
-
-/// The report of what two readers have.
-fn read_texts<T: Read, C: Read>(
-    alloc: Global,
-    trace_reader: &mut T,
-    cert_reader: &mut C,
-) -> Result<Report, Fault>
-    ensures report { IfOk result (λ report. IsCheckReportOfReaders (T.remaining trace_reader.old) (C.remaining cert_reader.old) (string_bytes report.text) report.verdict) }
-    ensures no_order { IfOk result (λ report. report.verdict ≡ Verdict.Violation → IfSome (T.remaining trace_reader.old) (λ trace. (t : TraceValue) → SpellsTrace trace t → IsConsistent t → ⊥)) }
-    ensures taken { IfOk result (λ _. LosesPrefix trace_read_limit (T.remaining trace_reader.old) (T.remaining trace_reader.new)) }
-    ensures taken_after { IfOk result (λ _. cert_reader.new ≡ cert_reader.old ⊎ LosesPrefix certificate_read_limit (C.remaining cert_reader.old) (C.remaining cert_reader.new)) }
-    ensures unread { IfSome (T.remaining trace_reader.old) (λ trace. IsRefusedTrace trace → cert_reader.new ≡ cert_reader.old) }
-    ensures fault { IfErr result (λ fault. (fault ≡ Fault.OutOfMemory) ⊎ (fault ≡ Fault.Read)) }
-{
-    let input = read_all(alloc, trace_reader, MAX_TEXT_BYTES)?;
-    match read_trace(alloc, &input) {
-        Ok(trace) => read_certificate(alloc, &trace, cert_reader),
-        Err(fault) => Ok(render_refusal(alloc, fault)?),
-    }
-}
-
-/// The report of what a reader has of a certificate, on a trace.
-fn read_certificate<C: Read>(alloc: Global, trace: &Trace, reader: &mut C) -> Result<Report, Fault>
-    ensures report { IfOk result (λ report. IsCertReportOfReader trace.now (C.remaining reader.old) (string_bytes report.text) report.verdict) }
-    ensures taken { IfOk result (λ _. LosesPrefix certificate_read_limit (C.remaining reader.old) (C.remaining reader.new)) }
-    ensures fault { IfErr result (λ fault. (fault ≡ Fault.OutOfMemory) ⊎ (fault ≡ Fault.Read)) }
-{
-    let input = read_cert_text(alloc, reader)?;
-    Ok(render_check(alloc, trace, &input)?)
-}
-
-/// All bytes of a reader, which are no more than the text of a certificate may have, or other evidence. Faults: OutOfMemory where
-/// an allocation was refused; Read where the reader failed or passed 2,097,152 calls, or has more than 67,108,864 bytes.
-pub fn read_cert_text<C: Read>(alloc: Global, reader: &mut C) -> Result<Vec<u8>, Fault>
-    ensures prefix { IfOk result (λ bytes. IfSome (C.remaining reader.old) (λ all. bytes.items ≡ take certificate_read_limit all)) }
-    ensures taken { IfOk result (λ _. LosesPrefix certificate_read_limit (C.remaining reader.old) (C.remaining reader.new)) }
-    ensures within { IfOk result (λ bytes. length bytes.items ≤ certificate_byte_limit) }
-    ensures fault { IfErr result (λ fault. (fault ≡ Fault.OutOfMemory) ⊎ (fault ≡ Fault.Read)) }
-{
-    let input = read_all(alloc, reader, MAX_CERTIFICATE_BYTES)?;
-    if input.len() > MAX_CERTIFICATE_BYTES {
-        return Err(Fault::Read);
-    }
-    Ok(input)
+    check_evidence(alloc, &Certificates, trace_reader, cert_reader, writer)
 }

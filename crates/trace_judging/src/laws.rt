@@ -8,7 +8,8 @@ ghost use Rattle.tso_model.specs.Axioms.{IsConsistent};
 ghost use Rattle.trace_reports.specs.declared.verdicts.Verdict.{Verdict};
 ghost use Rattle.trace_judging.specs.Checks.{IsCheckReport, SpellHolding};
 ghost use Rattle.trace_judging.specs.Limits.{certificate_byte_limit};
-ghost use Rattle.trace_reports.specs.Renderings.{IsTextOfInput, SaidOfRefusal, SaidOfTrace};
+ghost use Rattle.trace_reports.specs.declared.findings.Finding.{Finding};
+ghost use Rattle.trace_reports.specs.Renderings.{IsTextOfInput, RendersRefusal};
 ghost use Rattle.trace_reports.specs.Reports.{IsReport, ShowsViolationOf, SpellsViolation};
 
 /// Each input has one report. It says VIOLATION exactly where the input spells a trace that is a violation, which then
@@ -25,10 +26,10 @@ pub fn reports()
 /// Each input has one text of any rendering, whatever is said of traces and of refusals, with the verdict of its report, which is
 /// Violation exactly where the input spells a trace that is a violation.
 pub fn texts()
-    ensures exists { (said : SaidOfTrace) (refused : SaidOfRefusal) (input : List ℕ) → (text : List ℕ) × (verdict : Verdict) × IsTextOfInput said refused input text verdict }
-    ensures one { (said : SaidOfTrace) (refused : SaidOfRefusal) (input text other : List ℕ) (v w : Verdict) → IsTextOfInput said refused input text v → IsTextOfInput said refused input other w → (text ≡ other) × (v ≡ w) }
-    ensures verdict { (said : SaidOfTrace) (refused : SaidOfRefusal) (input text report : List ℕ) (v w : Verdict) → IsTextOfInput said refused input text v → IsReport input report w → v ≡ w }
-    ensures violation { (said : SaidOfTrace) (refused : SaidOfRefusal) (input text : List ℕ) (v : Verdict) → IsTextOfInput said refused input text v → (v ≡ Verdict.Violation) ↔ SpellsViolation input }
+    ensures exists { (said : TraceValue → Finding → List ℕ) (refused : RendersRefusal) (input : List ℕ) → (text : List ℕ) × (verdict : Verdict) × IsTextOfInput said refused input text verdict }
+    ensures one { (said : TraceValue → Finding → List ℕ) (refused : RendersRefusal) (input text other : List ℕ) (v w : Verdict) → IsTextOfInput said refused input text v → IsTextOfInput said refused input other w → (text ≡ other) × (v ≡ w) }
+    ensures verdict { (said : TraceValue → Finding → List ℕ) (refused : RendersRefusal) (input text report : List ℕ) (v w : Verdict) → IsTextOfInput said refused input text v → IsReport input report w → v ≡ w }
+    ensures violation { (said : TraceValue → Finding → List ℕ) (refused : RendersRefusal) (input text : List ℕ) (v : Verdict) → IsTextOfInput said refused input text v → (v ≡ Verdict.Violation) ↔ SpellsViolation input }
 {}
 
 /// Two texts have one report at most, and one where the second has 67,108,864 bytes at most. It says that the

@@ -40,7 +40,7 @@ pub fn rank_edges<H: Threads + Wait>(
 }
 
 /// The fault of rounds that gave no ranks.
-fn fault_of(fault: PoolFault) -> Fault
+pub(crate) fn fault_of(fault: PoolFault) -> Fault
     ensures memory { fault ≡ PoolFault.OutOfMemory → result ≡ Fault.OutOfMemory }
     ensures thread { fault ≡ PoolFault.NoThread → result ≡ Fault.NoThread }
 {

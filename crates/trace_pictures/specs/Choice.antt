@@ -9,7 +9,7 @@ use Rattle.tso_ops.specs.declared.operations.Part.{Part}
 use Rattle.tso_ops.specs.declared.operations.Part.TheVariants.{Whole, SwapLoad, SwapStore}
 use Rattle.tso_cert.specs.declared.steps.Certificate.{Certificate}
 use Rattle.tso_cert.specs.declared.steps.Certificate.TheVariants.{Unwritten, Cycle}
-use Rattle.trace_explanation.specs.Explanations.{stores_to}
+use Rattle.trace_explanation.specs.Explanations.{store_numbers}
 use Rattle.trace_explanation.specs.Names.{address_at, event_numbers, source_of}
 use Rattle.trace_explanation.specs.Steps.{is_among, links_of, step_numbers}
 use Rattle.trace_pictures.specs.Paths.{path_numbers}
@@ -20,7 +20,7 @@ use Rattle.trace_pictures.specs.Paths.{path_numbers}
 -- of the paths by which its edges are inferred, and those of the steps, of the last step first.
 abbrev pub verdict_numbers : TraceValue → Option Certificate → List ℕ
 verdict_numbers t None = []
-verdict_numbers t (Some (Unwritten n)) = n ∷ take 16 (stores_to t (address_at t n))
+verdict_numbers t (Some (Unwritten n)) = n ∷ take 16 (store_numbers t (address_at t n))
 verdict_numbers t (Some (Cycle steps cycle)) = cycle ++ path_numbers steps (links_of cycle) ++ flat_map (step_numbers t) (reverse steps)
 
 -- each of these before its source, if it is a load that has one

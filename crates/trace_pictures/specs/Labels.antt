@@ -17,8 +17,8 @@ unfoldable pub event_label : TraceValue → ℕ → List ℕ
 event_label t n = option_map_or (λ o. joined (outcome_text o.outcome ∷ part_text o.part ∷ codes " (" ∷ decimal n ∷ codes ")" ∷ [])) (operation_at t n) []
 
 -- the number of event n in an order: its place, from 1; none where it doesn't stand there
-abbrev pub number_at : List ℕ → ℕ → Option ℕ
-number_at order n = cond (nat_lt (place order n) (length order)) (Some (suc (place order n))) None
+abbrev pub number_in_order : List ℕ → ℕ → Option ℕ
+number_in_order order n = cond (nat_lt (place order n) (length order)) (Some (suc (place order n))) None
 
 -- what stands after the label of an event that has this number
 unfoldable pub number_label : Option ℕ → List ℕ

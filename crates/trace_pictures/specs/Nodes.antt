@@ -13,7 +13,7 @@ use Rattle.trace_pictures.specs.declared.arrows.Arrow.{Arrow}
 use Rattle.trace_pictures.specs.declared.rows.Row.{Row}
 use Rattle.trace_pictures.specs.declared.rows.Row.TheVariants.{Event, Barrier, Gap}
 use Rattle.trace_pictures.specs.Arrows.{arrow_words, arrows_at}
-use Rattle.trace_pictures.specs.Labels.{event_label, number_at, number_label}
+use Rattle.trace_pictures.specs.Labels.{event_label, number_in_order, number_label}
 use Rattle.trace_pictures.specs.Rows.{rows_of}
 
 -- ---- what a row is called, says and looks like
@@ -30,7 +30,7 @@ row_label t (Gap i count) = joined (decimal count ∷ codes " more" ∷ [])
 
 -- what stands after a row's label: the number of its event in an order
 abbrev pub row_number : List ℕ → Row → List ℕ
-row_number order (Event n) = number_label (number_at order n)
+row_number order (Event n) = number_label (number_in_order order n)
 row_number order (Barrier i outcome) = []
 row_number order (Gap i count) = []
 
@@ -106,8 +106,8 @@ rows_text t looks p x y above (row ∷ rows) =
     ++ rows_text t looks p x (y + row_step (is_close t row) + 12 * line_count looks row) (row_name p row) rows
 
 -- the lines of processor p: its head, and its rows, which begin 26 points lower where its number is odd
-unfoldable pub processor_text : TraceValue → List ℕ → Looks → ℕ → ℕ → List ℕ
-processor_text t drawn looks width p =
+unfoldable pub processor_nodes_text : TraceValue → List ℕ → Looks → ℕ → ℕ → List ℕ
+processor_nodes_text t drawn looks width p =
     joined (codes "  p" ∷ decimal p ∷ codes " [label=\"P" ∷ decimal p ∷ codes "\", shape=plaintext, fontsize=14, pos=\"" ∷ decimal (width * p) ∷ codes ",-70!\"];\n" ∷ [])
     ++ rows_text t looks p (width * p) (70 + 26 * (p % 2)) (codes "p" ++ decimal p) (rows_of t drawn p)
 

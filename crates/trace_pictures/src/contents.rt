@@ -1,6 +1,6 @@
 //! What a picture shows beside its trace.
 ghost use Rattle.std.specs.Prelude.{◌≡◌};
-ghost use Rattle.trace_pictures.specs.Contents.{shown_of};
+ghost use Rattle.trace_pictures.specs.Contents.{content_of};
 
 use crate::captions::Caption;
 use crate::edge_names::EdgeNames;
@@ -19,9 +19,9 @@ pub(crate) struct Content<'c> {
 }
 
 impl<'c> Model for Content<'c> {
-    ghost use Rattle.trace_pictures.specs.Contents.{Shown};
+    ghost use Rattle.trace_pictures.specs.Contents.{ContentValue};
 
-    ghost Value = { Shown };
+    ghost Value = { ContentValue };
 
     ghost view = { λ c. record { certificate = c.certificate.now; cycle = c.cycle.now; order = c.order.now; caption = c.caption; edges = c.edges } };
 }
@@ -35,7 +35,7 @@ impl<'c> Content<'c> {
         caption: Caption,
         edges: EdgeNames,
     ) -> Content<'c>
-        ensures { result ≡ shown_of certificate.now cycle.now order.now caption edges }
+        ensures { result ≡ content_of certificate.now cycle.now order.now caption edges }
     {
         Content {
             certificate,

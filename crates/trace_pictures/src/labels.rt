@@ -1,7 +1,7 @@
 //! What stands at nodes and edges, and how far apart processors are.
 ghost use Rattle.std.specs.Prelude.{◌≡◌, ◌+◌, ◌*◌, ◌^◌, ◌<◌, length, max, string_bytes, IfOk};
 ghost use Rattle.std.specs.List.{fold};
-ghost use Rattle.trace_pictures.specs.Labels.{column_width, event_label, number_at, number_label, rule_name, step_label};
+ghost use Rattle.trace_pictures.specs.Labels.{column_width, event_label, number_in_order, number_label, rule_name, step_label};
 
 use crate::placed::PlacedTrace;
 use std::alloc::{AllocError, Global};
@@ -40,7 +40,7 @@ pub(crate) fn number_label(alloc: Global, number: Option<usize>) -> Result<Strin
 
 /// The number of event `n` in an order: its place, from 1, or None where it doesn't stand there.
 pub(crate) fn number_at(order: &[u64], n: usize) -> Option<usize>
-    ensures { result ≡ number_at order.now n }
+    ensures { result ≡ number_in_order order.now n }
 {
     let mut place = 0;
     for other in order {

@@ -2,7 +2,7 @@
 //! read which store, and why a trace is a violation.
 //!
 //! `draw` writes it by the trace and its certificate, `draw_field` with the names of the field at the edges of the cycle, `draw_numbered` with the
-//! places of events in an order; `AsPicture` and `AsFieldPicture` are the renderings for `trace_judging::judge_with`. `README.md` says what is proved.
+//! places of events in an order; `AsPicture` and `AsFieldPicture` are the renderings for `trace_judging::answer_reader`. `README.md` says what is proved.
 #![tactic(auto)]
 
 pub use arrows::{Arrow, ArrowName, Mark};

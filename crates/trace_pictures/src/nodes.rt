@@ -5,7 +5,7 @@ ghost use Rattle.std.specs.List.{flat_map, range_with_len};
 ghost use Rattle.std.specs.Option.{option_map_or};
 ghost use Rattle.tso_ops.specs.Events.{processor_count};
 ghost use Rattle.trace_explanation.specs.Steps.{is_number};
-ghost use Rattle.trace_pictures.specs.Nodes.{border_mark, down_text, first_values_text, init_text, is_close, node_text, processor_text, row_arrows, row_label, row_marks, row_name, row_number, row_step, row_words, rows_text, small_lines};
+ghost use Rattle.trace_pictures.specs.Nodes.{border_mark, down_text, first_values_text, init_text, is_close, node_text, processor_nodes_text, row_arrows, row_label, row_marks, row_name, row_number, row_step, row_words, rows_text, small_lines};
 
 use crate::arrows::Arrow;
 use crate::labels::{event_label, number_at, number_label};
@@ -80,7 +80,7 @@ pub(crate) fn push_processors(
     width: u128,
 ) -> Result<(), AllocError>
     requires { width < 2 ^ 70 }
-    ensures { OnOk result (string_bytes text.new ≡ string_bytes text.old ++ flat_map (processor_text placed.now drawn.now looks.now width) (range_with_len 0 (processor_count placed.now))) }
+    ensures { OnOk result (string_bytes text.new ≡ string_bytes text.old ++ flat_map (processor_nodes_text placed.now drawn.now looks.now width) (range_with_len 0 (processor_count placed.now))) }
 {
     let mut x = 0;
     for proc in 0..placed.trace().processors() {
@@ -91,7 +91,7 @@ pub(crate) fn push_processors(
 }
 
 /// Appends the nodes of a processor.
-#[tactic(auto, unfolding(crate::specs::Nodes::processor_text))]
+#[tactic(auto, unfolding(crate::specs::Nodes::processor_nodes_text))]
 fn push_processor(
     alloc: Global,
     text: &mut String,
@@ -101,7 +101,7 @@ fn push_processor(
     column: Column,
 ) -> Result<(), AllocError>
     requires { column.proc < processor_count placed.now }
-    ensures { (width : ℕ) → column.x ≡ width * column.proc → OnOk result (string_bytes text.new ≡ string_bytes text.old ++ processor_text placed.now drawn.now looks.now width column.proc) }
+    ensures { (width : ℕ) → column.x ≡ width * column.proc → OnOk result (string_bytes text.new ≡ string_bytes text.old ++ processor_nodes_text placed.now drawn.now looks.now width column.proc) }
 {
     let rows = rows_of(alloc, placed, drawn, column.proc)?;
     let proc = column.proc;

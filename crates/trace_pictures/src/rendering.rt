@@ -13,12 +13,12 @@ use tso_text::TextFault;
 #[derive(Clone, Copy)]
 pub struct AsPicture;
 
-impl Rendering for AsPicture {
-    ghost said = { pictured };
+impl Rendering<Trace, Finding> for AsPicture {
+    ghost rendered = { λ form. pictured };
 
-    ghost refused = { refusal_shown };
+    ghost refused = { λ form. refusal_shown };
 
-    fn text_of_trace(
+    fn text_of_found(
         &self,
         alloc: Global,
         trace: &Trace,
@@ -38,19 +38,19 @@ impl Rendering for AsPicture {
         AsReport.text_of_refusal(alloc, input, fault)
     }
 
-    ghost whole = { λ a b why. refl };
+    ghost whole = { λ form a b why. refl };
 }
 
 /// The picture of a trace with the names of the field at the edges of the cycle; or the line of a refusal.
 #[derive(Clone, Copy)]
 pub struct AsFieldPicture;
 
-impl Rendering for AsFieldPicture {
-    ghost said = { field_pictured };
+impl Rendering<Trace, Finding> for AsFieldPicture {
+    ghost rendered = { λ form. field_pictured };
 
-    ghost refused = { refusal_shown };
+    ghost refused = { λ form. refusal_shown };
 
-    fn text_of_trace(
+    fn text_of_found(
         &self,
         alloc: Global,
         trace: &Trace,
@@ -70,5 +70,5 @@ impl Rendering for AsFieldPicture {
         AsReport.text_of_refusal(alloc, input, fault)
     }
 
-    ghost whole = { λ a b why. refl };
+    ghost whole = { λ form a b why. refl };
 }

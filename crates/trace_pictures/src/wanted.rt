@@ -2,7 +2,7 @@
 ghost use Rattle.std.specs.Prelude.{◌≡◌, ◌++◌, ◌∷◌, reverse, take, IfOk, OnOk};
 ghost use Rattle.std.specs.List.{flat_map};
 ghost use Rattle.std.specs.Option.{option_to_list};
-ghost use Rattle.trace_explanation.specs.Explanations.{stores_to};
+ghost use Rattle.trace_explanation.specs.Explanations.{store_numbers};
 ghost use Rattle.trace_explanation.specs.Names.{address_at};
 ghost use Rattle.trace_explanation.specs.Steps.{links_of, step_numbers};
 ghost use Rattle.trace_pictures.specs.Choice.{verdict_numbers, wanted};
@@ -83,7 +83,7 @@ fn list_cycle_first(
 
 /// An unwritten load, and the first stores to its address.
 fn list_unwritten(alloc: Global, trace: &Trace, n: usize) -> Result<Vec<usize>, AllocError>
-    ensures { IfOk result (λ numbers. numbers.items ≡ n ∷ take 16 (stores_to trace.now (address_at trace.now n))) }
+    ensures { IfOk result (λ numbers. numbers.items ≡ n ∷ take 16 (store_numbers trace.now (address_at trace.now n))) }
 {
     let stores = list_stores(alloc, trace, address_of(trace, n))?;
     let mut numbers = Vec::new(alloc);

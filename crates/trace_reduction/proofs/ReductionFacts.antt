@@ -1,10 +1,9 @@
 -- What is reduced to a small trace that shows a violation has no order of its model.
 use Rattle.std.proofs.Common.{◌≡◌, ◌↔◌, ℕ, true, List, Some, None, Ok, Err, IfSome, string_bytes, inl, inr, refl, sym, ◌∙◌, subst, take, ⊎_elim}
-use Rattle.std.specs.Prelude.{IfOk, MatchOption, Option, Result, is_some}
+use Rattle.std.specs.Prelude.{IfOk, Option, Result, is_some}
 use Rattle.tso_ops.specs.Values.{TraceValue}
 use Rattle.tso_ops.specs.Limits.{IsTrace}
 use Rattle.tso_ops.specs.Events.{IsUnwritten}
-use Rattle.tso_ops.proofs.NumberFacts.{own_values}
 use Rattle.tso_text.specs.Printed.{trace_text}
 use Rattle.tso_text.specs.Texts.{SpellsTrace}
 use Rattle.trace_streams.specs.Limits.{trace_read_limit}
@@ -15,13 +14,14 @@ use Rattle.tso_cert.specs.declared.steps.Certificate.TheVariants.{Cycle}
 use Rattle.tso_model.specs.Axioms.{IsConsistent}
 use Rattle.tso_model.specs.Certs.{IsCertificateOf}
 use Rattle.tso_model.proofs.CertificateCause.{certificate_cause}
-use Rattle.tso_model.proofs.EdgesForward.{all_written, no_derived_cycle}
+use Rattle.tso_model.proofs.EdgesForward.{all_written}
 use Rattle.trace_reports.specs.declared.findings.Finding.{Finding}
 use Rattle.trace_reports.specs.declared.verdicts.Verdict.{Verdict}
 use Rattle.trace_reports.specs.declared.verdicts.Verdict.TheVariants.{NoViolation, Violation, Refused}
 use Rattle.trace_reports.specs.Findings.{IsFinding}
 use Rattle.trace_reports.specs.Reports.{SpellsViolation}
 use Rattle.trace_reports.specs.Violations.{IsViolation}
+use Rattle.trace_judging.proofs.ViolationFacts.{certified, violation_no_order}
 use Rattle.text_streams.proofs.ReadingFacts.{reads_as}
 use Rattle.trace_streams.proofs.InputFacts.{refusal_of_prefix, spells_of_prefix}
 use Rattle.log_selections.specs.Selections.{IsSelectionBy}
@@ -34,15 +34,11 @@ use Rattle.trace_reduction.proofs.SelectionFacts.{whole_selection}
 
 -- ---- no orders
 
-no_order : (t : TraceValue) → IsTrace t → IsViolation t → IsConsistent t → ⊥
-no_order t kept violation consistent =
-    ⊎_elim (λ unwritten. all_written t consistent.0 consistent.1 unwritten.0 unwritten.1) (λ cycle. no_derived_cycle t (own_values t kept) consistent.0 consistent.1 cycle) violation
-
 -- of a trace that is reduced
 pub reduced_no_order : (t small : TraceValue) → IsReduction t small → IsConsistent t → ⊥
 reduced_no_order t small is =
     ⊎_elim
-    (λ selection. selection_violation t small selection (no_order small is.kept is.violation))
+    (λ selection. selection_violation t small selection (violation_no_order small is.kept is.violation))
     (λ lone. λ (consistent : IsConsistent t). all_written t consistent.0 consistent.1 lone.load lone.unwritten)
     is.from
 
@@ -57,11 +53,6 @@ lone_reduction t small l unwritten is =
 -- the trace itself
 pub whole_reduction : (t : TraceValue) (c : Certificate) (steps : List CertStep) (cycle : List ℕ) → IsTrace t → c ≡ Cycle steps cycle → IsCertificateOf t c → IsReduction t t
 whole_reduction t c steps cycle kept same is = record { kept = kept; violation = certificate_cause t c is; from = inl (whole_selection t kept (subst (IsCertificateOf t) same is).0) }
-
--- what has a certificate is a violation
-certified : (t : TraceValue) (found : Option Certificate) → MatchOption found (IsViolation t → ⊥) (IsCertificateOf t) → is_some found ≡ true → IsViolation t
-certified t None nothing some = absurd cc
-certified t (Some c) is some = certificate_cause t c is
 
 -- a selection that is judged to be a violation
 pub judged_reduction : (t small : TraceValue) (origin : ℕ → ℕ) (finding : Finding) → IsTrace small → IsSelectionBy t small origin → IsFinding small finding → is_some finding.certificate ≡ true → IsReduction t small
@@ -93,7 +84,7 @@ reduction_violation input text v (inr (line, why, refused, whole, is)) = (λ e. 
 pub reduction_no_order : (input text : List ℕ) (v : Verdict) → IsReductionOf input text v → v ≡ Violation → (t : TraceValue) → SpellsTrace input t → IsConsistent t → ⊥
 reduction_no_order input text v is e t spells =
     let spelled = (reduction_violation input text v is).0 e in
-    no_order t spells.0 (subst IsViolation (trace_laws.one_value input spelled.0 t spelled.1 spells) spelled.2)
+    violation_no_order t spells.0 (subst IsViolation (trace_laws.one_value input spelled.0 t spelled.1 spells) spelled.2)
 
 -- ---- readers
 

@@ -10,7 +10,7 @@ use Rattle.log_selections.specs.Unwritten.{lone_load}
 use Rattle.trace_reports.specs.declared.verdicts.Verdict.{Verdict}
 use Rattle.trace_reports.specs.declared.verdicts.Verdict.TheVariants.{NoViolation, Violation, Refused}
 use Rattle.text_streams.specs.Readings.{ReadsAs}
-use Rattle.trace_reports.specs.Renderings.{IsTextOfRefusal}
+use Rattle.trace_reports.specs.Renderings.{IsTextOf}
 use Rattle.trace_reports.specs.Reports.{refusal_shown}
 use Rattle.trace_reports.specs.Verdicts.{verdict_line}
 use Rattle.trace_reports.specs.Violations.{IsViolation}
@@ -40,7 +40,7 @@ IsReducedText t text Refused = ⊥
 
 -- The text is printed of the trace that the input spells, or refuses the input.
 abbrev pub IsReductionOf : List ℕ → List ℕ → Verdict → Type 0
-IsReductionOf input text verdict = ((t : TraceValue) × SpellsTrace input t × IsReducedText t text verdict) ⊎ IsTextOfRefusal refusal_shown input text verdict
+IsReductionOf input text verdict = IsTextOf IsReducedText Refused refusal_shown input text verdict
 
 -- the same of the bytes of a reader
 abbrev pub IsReductionOfReader : Option (List ℕ) → List ℕ → Verdict → Type 0

@@ -3,7 +3,7 @@
 use crate::logs::keep_all;
 use crate::losses::{Loss, Losses, without};
 use crate::parts::Parts;
-use crate::trials::is_violation;
+use crate::trials::accuses_trace;
 use log_search::{Effort, Judge};
 use log_selections::{Kept, KnownLog};
 use std::alloc::Global;
@@ -67,7 +67,7 @@ impl<'a, H: Threads + Wait> SparingJudge<'a, H> {
         let Some(trace) = self.known.trace_of(self.alloc, kept)? else {
             return Ok(false);
         };
-        is_violation(self.rt, self.alloc, &trace, &mut self.effort)
+        accuses_trace(self.rt, self.alloc, &trace, &mut self.effort)
     }
 
     /// Whether what was accused last is no longer without this.

@@ -4,7 +4,7 @@
 #![tactic(auto)]
 
 pub use reports::reduce_trace;
-pub use trials::is_violation;
+pub use trials::accuses_trace;
 
 mod candidates;
 mod judging;

@@ -20,7 +20,7 @@ use std::alloc::Global;
 use std::sync::Wait;
 use std::thread::Threads;
 use text_streams::Fault;
-use trace_judging::find_violation;
+use trace_judging::{ByRules, Question};
 use trace_reports::{Finding, Verdict, verdict_line};
 use tso_cert::{Certificate, StepList};
 use tso_ops::{OutOfMemory, Trace};
@@ -45,7 +45,7 @@ pub(crate) fn reduce<H: Threads + Wait>(
     ensures reduced { IfOk result (λ reduction. IsReducedText trace.now (string_bytes reduction.text) reduction.verdict) }
     ensures fault { IfErr result (λ fault. (fault ≡ Fault.OutOfMemory) ⊎ (fault ≡ Fault.NoThread)) }
 {
-    let finding = find_violation(rt, alloc, trace, 1)?;
+    let finding = ByRules { workers: 1 }.find(rt, alloc, trace)?;
     let effort = Effort::new(trace.events(), finding.rounds as usize);
     match finding.certificate {
         None => Ok(Reduction {
@@ -135,7 +135,7 @@ fn find_small<H: Threads + Wait>(
     }
     // Its clause `kept`: the small trace is within the limits of traces.
     let _processors = small.trace.processors();
-    let finding = find_violation(rt, alloc, &small.trace, 1)?;
+    let finding = ByRules { workers: 1 }.find(rt, alloc, &small.trace)?;
     if finding.certificate.is_some() {
         Ok(Some(small))
     } else {

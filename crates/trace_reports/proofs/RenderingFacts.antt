@@ -8,7 +8,8 @@ use Rattle.tso_ops.specs.Values.{TraceValue}
 use Rattle.tso_ops.specs.Events.{IsUnwritten}
 use Rattle.tso_ops.proofs.NumberFacts.{HasOwnValues, own_values}
 use Rattle.tso_text.specs.Texts.{SpellsTrace}
-use Rattle.tso_text.specs.Refusals.{IsRefusedTrace}
+use Rattle.tso_text.specs.declared.faults.Why.{Why}
+use Rattle.tso_text.specs.Refusals.{IsRefusedTrace, IsTraceRefusal}
 use Rattle.tso_text.proofs.TextLaws.{trace_laws}
 use Rattle.tso_cert.specs.declared.steps.Certificate.{Certificate}
 use Rattle.order_paths.proofs.Decisions.{Decision-either}
@@ -27,7 +28,7 @@ use Rattle.trace_reports.specs.declared.findings.Finding.{Finding}
 use Rattle.trace_reports.specs.declared.verdicts.Verdict.{Verdict}
 use Rattle.trace_reports.specs.declared.verdicts.Verdict.TheVariants.{NoViolation, Violation, Refused}
 use Rattle.trace_reports.specs.Findings.{IsFinding}
-use Rattle.trace_reports.specs.Renderings.{IsTextOfInput, IsTextOfRefusal, IsTextOfTrace, SaidOfRefusal, SaidOfTrace}
+use Rattle.trace_reports.specs.Renderings.{IsTextOfInput, IsTextOfTrace, RendersRefusal}
 use Rattle.trace_reports.specs.Reports.{reported, IsReport, IsTraceReport, ShowsNoViolationOf, ShowsViolationOf, SpellsViolation}
 use Rattle.trace_reports.specs.Verdicts.{is_refused, is_violation}
 use Rattle.trace_reports.specs.Violations.{IsViolation}
@@ -68,7 +69,7 @@ verdict_by c = option_map_or (λ _. Violation) c NoViolation
 refused_no_violation : Refused ≡ Violation → ⊥
 refused_no_violation e = false≢true (ap is_violation e)
 
-none_no_violation : NoViolation ≡ Violation → ⊥
+pub none_no_violation : NoViolation ≡ Violation → ⊥
 none_no_violation e = false≢true (ap is_violation e)
 
 verdict_says : (t : TraceValue) (c : Option Certificate) → IsFoundOf t c → (verdict_by c ≡ Violation) ↔ IsViolation t
@@ -93,7 +94,7 @@ no_certificate None e = refl
 no_certificate (Some d) e = absurd (none_no_violation (sym e))
 
 -- a violation leaves no order
-violation_leaves_none : (t : TraceValue) → HasOwnValues t → IsViolation t → IsConsistent t → ⊥
+pub violation_leaves_none : (t : TraceValue) → HasOwnValues t → IsViolation t → IsConsistent t → ⊥
 violation_leaves_none t own violation consistent =
     ⊎_elim
     (λ (unwritten : (l : ℕ) × IsUnwritten t l). all_written t consistent.0 consistent.1 unwritten.0 unwritten.1)
@@ -102,7 +103,7 @@ violation_leaves_none t own violation consistent =
 
 -- ---- what is said of a trace
 
-module _ {said : SaidOfTrace} where
+module _ {said : TraceValue → Finding → List ℕ} where
   -- the verdict is Violation exactly where the trace is one
   pub trace_violation : (t : TraceValue) (text : List ℕ) (v : Verdict) → IsTextOfTrace said t text v → (v ≡ Violation) ↔ IsViolation t
   trace_violation t text v is = subst (λ w. (w ≡ Violation) ↔ IsViolation t) (sym is.says) (verdict_says t is.finding.certificate is.found.certificate)
@@ -125,13 +126,17 @@ module _ {said : SaidOfTrace} where
 
 -- ---- what is said of an input
 
-pub one_of_refusal : (refused : SaidOfRefusal) (input a b : List ℕ) (v w : Verdict) → IsTextOfRefusal refused input a v → IsTextOfRefusal refused input b w → (a ≡ b) × (v ≡ w)
-one_of_refusal refused input a b v w p q =
+-- the input is refused, and the text is rendered of that
+abbrev pub IsRenderedRefusal : {V : Type 0} → V → RendersRefusal → List ℕ → List ℕ → V → Type 0
+IsRenderedRefusal refusing refused input text verdict = (line : ℕ) × (why : Why) × IsTraceRefusal input line why × (text ≡ refused input line why) × (verdict ≡ refusing)
+
+pub one_of_refusal : {V : Type 0} (refusing : V) (refused : RendersRefusal) (input a b : List ℕ) (v w : V) → IsRenderedRefusal refusing refused input a v → IsRenderedRefusal refusing refused input b w → (a ≡ b) × (v ≡ w)
+one_of_refusal refusing refused input a b v w p q =
     let same = trace_laws.one_refusal input p.0 q.0 p.1 q.1 p.2 q.2 in
     (p.3 ∙ ap (λ line. refused input line p.1) same.0 ∙ ap (refused input q.0) same.1 ∙ sym q.3, p.4 ∙ sym q.4)
 
 -- the verdict is the same, whatever is said
-pub same_verdict : (said told : SaidOfTrace) (refused missed : SaidOfRefusal) (input a b : List ℕ) (v w : Verdict) → IsTextOfInput said refused input a v → IsTextOfInput told missed input b w → v ≡ w
+pub same_verdict : (said told : TraceValue → Finding → List ℕ) (refused missed : RendersRefusal) (input a b : List ℕ) (v w : Verdict) → IsTextOfInput said refused input a v → IsTextOfInput told missed input b w → v ≡ w
 same_verdict said told refused missed input a b v w (inl p) (inl q) =
     let t = trace_laws.one_value input p.0 q.0 p.1 q.1 in
     let first = subst (λ t. IsTextOfTrace said t a v) t p.2 in
@@ -141,12 +146,12 @@ same_verdict said told refused missed input a b v w (inl p) (inr q) = absurd (tr
 same_verdict said told refused missed input a b v w (inr p) (inl q) = absurd (trace_laws.not_both input q.0 p.0 p.1 q.1 p.2)
 same_verdict said told refused missed input a b v w (inr p) (inr q) = p.4 ∙ sym q.4
 
-module _ (said : SaidOfTrace) (refused : SaidOfRefusal) where
+module _ (said : TraceValue → Finding → List ℕ) (refused : RendersRefusal) where
   pub one_text : (input a b : List ℕ) (v w : Verdict) → IsTextOfInput said refused input a v → IsTextOfInput said refused input b w → (a ≡ b) × (v ≡ w)
   one_text input a b v w (inl p) (inl q) = one_of_trace q.0 (own_values q.0 q.1.0) a b v w (subst (λ t. IsTextOfTrace said t a v) (trace_laws.one_value input p.0 q.0 p.1 q.1) p.2) q.2
   one_text input a b v w (inl p) (inr q) = absurd (trace_laws.not_both input p.0 q.0 q.1 p.1 q.2)
   one_text input a b v w (inr p) (inl q) = absurd (trace_laws.not_both input q.0 p.0 p.1 q.1 p.2)
-  one_text input a b v w (inr p) (inr q) = one_of_refusal refused input a b v w p q
+  one_text input a b v w (inr p) (inr q) = one_of_refusal Refused refused input a b v w p q
 
   pub some_text : (input : List ℕ) → (text : List ℕ) × (v : Verdict) × IsTextOfInput said refused input text v
   some_text input = elim (trace_laws.either input) [

@@ -10,21 +10,22 @@ use Rattle.tso_cert.specs.declared.steps.Certificate.{Certificate}
 use Rattle.tso_cert.specs.Printed.{cert_text}
 use Rattle.tso_model.specs.Certs.{Holds}
 use Rattle.trace_reports.specs.RefusalLines.{refusal_text}
-use Rattle.trace_reports.specs.Renderings.{IsTextOfInput, IsTextOfTrace, SaidOfRefusal, SaidOfTrace}
+use Rattle.trace_reports.specs.declared.findings.Finding.{Finding}
+use Rattle.trace_reports.specs.Renderings.{IsTextOfInput, IsTextOfTrace, RendersRefusal}
 use Rattle.trace_reports.specs.Verdicts.{verdict_line}
 use Rattle.trace_reports.specs.Violations.{IsViolation}
 
 -- ---- texts
 
 -- the first lines of a report on a trace, by what is found of it: the last of them says the verdict
-abbrev pub head_text : SaidOfTrace
+abbrev pub head_text : TraceValue → Finding → List ℕ
 head_text t finding = codes "TSO REPORT 1\nprocessors " ++ decimal (processor_count t) ++ codes " events " ++ decimal (event_total t)
     ++ codes " rounds " ++ decimal finding.rounds ++ codes "\n" ++ verdict_line (is_some finding.certificate)
 
 -- ---- the report of a trace
 
 -- what the report says of a trace: its last lines are those of the certificate, if there is one
-abbrev pub reported : SaidOfTrace
+abbrev pub reported : TraceValue → Finding → List ℕ
 reported t finding = head_text t finding ++ option_map_or cert_text finding.certificate []
 
 abbrev pub IsTraceReport : TraceValue → List ℕ → Verdict → Type 0
@@ -42,7 +43,7 @@ ShowsNoViolationOf t text = (rounds : ℕ) × (text ≡ reported t (record { rou
 -- ---- the report of an input
 
 -- the line of the refusal, whatever the input
-abbrev pub refusal_shown : SaidOfRefusal
+abbrev pub refusal_shown : RendersRefusal
 refusal_shown input line why = refusal_text line why
 
 -- The text is the report of the input: that of the trace that it spells, or that of its refusal.

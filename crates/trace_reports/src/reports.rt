@@ -15,12 +15,12 @@ use tso_text::TextFault;
 #[derive(Clone, Copy)]
 pub struct AsReport;
 
-impl Rendering for AsReport {
-    ghost said = { reported };
+impl Rendering<Trace, Finding> for AsReport {
+    ghost rendered = { λ form. reported };
 
-    ghost refused = { refusal_shown };
+    ghost refused = { λ form. refusal_shown };
 
-    fn text_of_trace(
+    fn text_of_found(
         &self,
         alloc: Global,
         trace: &Trace,
@@ -43,7 +43,7 @@ impl Rendering for AsReport {
         refusal_line(alloc, fault)
     }
 
-    ghost whole = { λ a b why. refl };
+    ghost whole = { λ form a b why. refl };
 }
 
 /// The first lines of a report on a trace, also of its explanation: how many processors and events it has, its rounds

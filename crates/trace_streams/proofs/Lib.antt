@@ -1,6 +1,6 @@
-pub mod CutterFacts
+pub mod StreamSplitterFacts
 pub mod InputFacts
 pub mod NthFacts
-pub mod PieceFacts
-pub mod PieceReaderFacts
-pub mod TracePieces
+pub mod TraceTextFacts
+pub mod TraceTextReaderFacts
+pub mod PrintedTraceTexts

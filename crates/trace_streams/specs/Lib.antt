@@ -1,6 +1,6 @@
-pub mod Cutters
+pub mod StreamSplitters
 pub mod Internal
 pub mod Limits
-pub mod NthPieces
-pub mod PieceReading
-pub mod Pieces
+pub mod NthTraceTexts
+pub mod TraceTextReading
+pub mod TraceTexts

@@ -1,17 +1,17 @@
-//! Streams of traces' texts, one after the other, cut into the pieces that are the texts.
+//! Streams of trace texts, one after the other, split into these texts.
 //!
-//! `PieceReader` gives the pieces one after the other, `read_piece` the one of a number; `Cutter` cuts what is read elsewhere.
-//! `README.md` says what is proved.
+//! `TraceTextReader` gives the trace texts one after the other, `read_trace_text` the one of a number; `StreamSplitter` cuts what is read
+//! elsewhere. `README.md` says what is proved.
 #![tactic(auto)]
 
-pub use cutters::Cutter;
-pub use nth_pieces::read_piece;
-pub use piece_readers::PieceReader;
+pub use nth_trace_texts::read_trace_text;
+pub use stream_splitters::StreamSplitter;
+pub use trace_text_readers::TraceTextReader;
 
-mod cutters;
 pub mod laws;
-mod nth_pieces;
-mod piece_readers;
+mod nth_trace_texts;
+mod stream_splitters;
+mod trace_text_readers;
 
 /// How many bytes of a stream one call of `read` asks for.
 pub const CHUNK: usize = 262_144;

@@ -5,7 +5,7 @@ use Rattle.std.specs.Str.{bytes_eq}
 use Rattle.std.proofs.Math.Seq.{drop-cons}
 use Rattle.std.proofs.lemmas.List.{drop_all}
 use Rattle.std.proofs.Math.Numerals.{add-one}
-use Rattle.tso_cert.specs.declared.faults.Why.TheVariants.{BadRule}
+use Rattle.tso_cert.specs.declared.faults.CertificateRefusal.TheVariants.{BadRule}
 use Rattle.tso_cert.specs.Internal.LineValues.{named}
 
 -- the rule at a place, where it has the name

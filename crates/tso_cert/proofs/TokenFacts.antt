@@ -9,8 +9,8 @@ use Rattle.std.proofs.lemmas.Slice.Eq.{bytes_eq-Decides}
 use Rattle.line_text.specs.Lines.{SomeToken}
 use Rattle.line_text.specs.Numbers.{number}
 use Rattle.line_text.proofs.NumberFacts.{number_is, number-decimal}
-use Rattle.tso_cert.specs.declared.faults.Why.{Why}
-use Rattle.tso_cert.specs.declared.faults.Why.TheVariants.{BadLine}
+use Rattle.tso_cert.specs.declared.faults.CertificateRefusal.{CertificateRefusal}
+use Rattle.tso_cert.specs.declared.faults.CertificateRefusal.TheVariants.{BadLine}
 use Rattle.line_text.specs.Results.{◌>>=◌}
 use Rattle.tso_cert.specs.Internal.LineValues.{unwritten_said}
 use Rattle.tso_cert.proofs.SayingFacts.{cases}
@@ -23,7 +23,7 @@ unwritten-more k p ps some = rw some.parts refl
 -- ---- the numbers of tokens, read one after another
 
 -- what the events of tokens are, after those that were read
-abbrev pub tokens_after_read : List ℕ → Result (List ℕ) Why → Result (List ℕ) Why
+abbrev pub tokens_after_read : List ℕ → Result (List ℕ) CertificateRefusal → Result (List ℕ) CertificateRefusal
 tokens_after_read numbers rest = rest >>= λ more. Ok (numbers ++ more)
 
 -- the bytes that are left, and one more where there are any

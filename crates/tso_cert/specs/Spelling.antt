@@ -7,8 +7,8 @@ use Rattle.line_text.specs.Lines.{line_text, parts_of}
 use Rattle.line_text.specs.Refusals.{IsRefusedAfter, ArePartsRefused}
 use Rattle.tso_cert.specs.declared.steps.CertStep.{CertStep}
 use Rattle.tso_cert.specs.declared.steps.Certificate.{Certificate}
-use Rattle.tso_cert.specs.declared.faults.Why.{Why}
-use Rattle.tso_cert.specs.declared.faults.Why.TheVariants.{BadLine, BadNumber, BadRule, NoCycle, AfterCycle}
+use Rattle.tso_cert.specs.declared.faults.CertificateRefusal.{CertificateRefusal}
+use Rattle.tso_cert.specs.declared.faults.CertificateRefusal.TheVariants.{BadLine, BadNumber, BadRule, NoCycle, AfterCycle}
 use Rattle.tso_cert.specs.Printed.{event_text, step_tokens, steps_tokens, cert_text, Fits, StepFits, CertFits}
 
 -- The text spells the certificate: it is its text, and 64 bits hold each number.
@@ -38,7 +38,7 @@ HasStepNumbers number (first ∷ from ∷ to ∷ name ∷ tokens) = (first ≡ d
 HasStepNumbers number _ = ⊥
 
 -- The line of this number and these tokens has the fault.
-abbrev pub IsLineFault : ℕ → List (List ℕ) → Why → Type 0
+abbrev pub IsLineFault : ℕ → List (List ℕ) → CertificateRefusal → Type 0
 IsLineFault number tokens BadLine = has_form number tokens ≡ false
 IsLineFault number tokens BadNumber = (has_form number tokens ≡ true) × (is_last_line tokens ≡ true → All IsEventToken (drop 1 tokens) → ⊥) × (HasStepNumbers number tokens → ⊥)
 IsLineFault number tokens BadRule = HasStepNumbers number tokens × ((s : CertStep) → tokens ≡ step_tokens number s → ⊥)
@@ -47,7 +47,7 @@ IsLineFault number tokens _ = ⊥
 -- ---- texts
 
 -- The refusal of a text: its line after those of steps has a fault or no line end, or bytes follow the whole text of a certificate.
-unfoldable pub IsCertTextRefusal : List ℕ → ℕ → Why → Type 0
+unfoldable pub IsCertTextRefusal : List ℕ → ℕ → CertificateRefusal → Type 0
 IsCertTextRefusal text line why =
     ((steps : List CertStep) × All StepFits steps × IsRefusedAfter text (flat_map line_text (steps_tokens 1 steps)) line (λ rest. ArePartsRefused NoCycle BadLine (IsLineFault (suc (length steps))) (parts_of rest) why))
     ⊎ ((c : Certificate) × CertFits c × IsRefusedAfter text (cert_text c) line (λ rest. (rest ≢ []) × (why ≡ AfterCycle)))
@@ -57,4 +57,4 @@ abbrev pub IsSpelled : List ℕ → Type 0
 IsSpelled text = (c : Certificate) × SpellsCertificate text c
 
 abbrev pub IsRefused : List ℕ → Type 0
-IsRefused text = (line : ℕ) × (why : Why) × IsCertTextRefusal text line why
+IsRefused text = (line : ℕ) × (why : CertificateRefusal) × IsCertTextRefusal text line why

@@ -1,5 +1,5 @@
 ghost use Rattle.std.specs.Prelude.{◌≡◌};
-ghost use Rattle.tso_cert.specs.declared.faults.Why.{Why};
+ghost use Rattle.tso_cert.specs.declared.faults.CertificateRefusal.{CertificateRefusal};
 
 use std::alloc::{AllocError, AllocFailed};
 use thiserror::Error;
@@ -10,7 +10,7 @@ pub use std::alloc::AllocError as OutOfMemory;
 /// Why the text of a certificate is refused, in the order of their numbers: of two on one line the first counts.
 #[derive(Clone, Copy, Debug, PartialEq, Eq, Error)]
 #[error("{}", self.name())]
-pub enum Why {
+pub enum CertificateRefusal {
     /// A line with no line end; `unwritten` on another line than the first, or not with just one token after it; or a
     /// step line of fewer than four tokens.
     BadLine,
@@ -26,7 +26,7 @@ pub enum Why {
     OutOfMemory,
 }
 
-impl Why {
+impl CertificateRefusal {
     ghost use Rattle.tso_cert.specs.RefusalNames.{certificate_refusal_name};
 
     /// The name, as reports on certificates print it.
@@ -34,12 +34,12 @@ impl Why {
         ensures { result.now ≡ certificate_refusal_name self }
     {
         match self {
-            Why::BadLine => "BadLine",
-            Why::BadNumber => "BadNumber",
-            Why::BadRule => "BadRule",
-            Why::NoCycle => "NoCycle",
-            Why::AfterCycle => "AfterCycle",
-            Why::OutOfMemory => "OutOfMemory",
+            CertificateRefusal::BadLine => "BadLine",
+            CertificateRefusal::BadNumber => "BadNumber",
+            CertificateRefusal::BadRule => "BadRule",
+            CertificateRefusal::NoCycle => "NoCycle",
+            CertificateRefusal::AfterCycle => "AfterCycle",
+            CertificateRefusal::OutOfMemory => "OutOfMemory",
         }
     }
 }
@@ -47,25 +47,25 @@ impl Why {
 /// Why the text of a certificate is refused, and at which line: from 1, or 0 for OutOfMemory.
 #[derive(Clone, Copy, Debug, PartialEq, Eq, Error)]
 #[error("{why} line {line}")]
-pub struct TextFault {
+pub struct CertificateTextFault {
     /// The line.
     pub line: usize,
     /// The refusal.
-    pub why: Why,
+    pub why: CertificateRefusal,
 }
 
-impl From<AllocError> for Why {
-    ghost from_gives = { λ _ why. why ≡ Why.OutOfMemory };
+impl From<AllocError> for CertificateRefusal {
+    ghost from_gives = { λ _ why. why ≡ CertificateRefusal.OutOfMemory };
 
-    fn from(_error: AllocError) -> Why {
-        Why::OutOfMemory
+    fn from(_error: AllocError) -> CertificateRefusal {
+        CertificateRefusal::OutOfMemory
     }
 }
 
-impl<T: Drop> From<AllocFailed<T>> for Why {
-    ghost from_gives = { λ _ why. why ≡ Why.OutOfMemory };
+impl<T: Drop> From<AllocFailed<T>> for CertificateRefusal {
+    ghost from_gives = { λ _ why. why ≡ CertificateRefusal.OutOfMemory };
 
-    fn from(_error: AllocFailed<T>) -> Why {
-        Why::OutOfMemory
+    fn from(_error: AllocFailed<T>) -> CertificateRefusal {
+        CertificateRefusal::OutOfMemory
     }
 }

@@ -3,7 +3,7 @@
 ghost use Rattle.std.specs.Prelude.{◌≡◌, ◌⊎◌, ℕ, List};
 ghost use Rattle.tso_cert.specs.Printed.{cert_text, CertFits};
 ghost use Rattle.tso_cert.specs.Spelling.{SpellsCertificate, IsCertTextRefusal, IsSpelled, IsRefused};
-ghost use Rattle.tso_cert.specs.declared.faults.Why.{Why};
+ghost use Rattle.tso_cert.specs.declared.faults.CertificateRefusal.{CertificateRefusal};
 ghost use Rattle.tso_cert.specs.declared.steps.Certificate.{Certificate};
 
 /// Each text spells a certificate or is refused, never both; it spells one certificate, and gets one refusal;
@@ -13,6 +13,6 @@ pub fn certificates()
     ensures never_both { (text : List ℕ) → IsSpelled text → IsRefused text → ⊥ }
     ensures one_value { (text : List ℕ) (c d : Certificate) → SpellsCertificate text c → SpellsCertificate text d → c ≡ d }
     ensures one_text { (text : List ℕ) (c : Certificate) → SpellsCertificate text c → text ≡ cert_text c }
-    ensures one_refusal { (text : List ℕ) (j k : ℕ) (v w : Why) → IsCertTextRefusal text j v → IsCertTextRefusal text k w → (j ≡ k) × (v ≡ w) }
+    ensures one_refusal { (text : List ℕ) (j k : ℕ) (v w : CertificateRefusal) → IsCertTextRefusal text j v → IsCertTextRefusal text k w → (j ≡ k) × (v ≡ w) }
     ensures printed { (c : Certificate) → CertFits c → SpellsCertificate (cert_text c) c }
 {}

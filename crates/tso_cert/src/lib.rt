@@ -3,7 +3,7 @@
 //! A certificate has one text, and a text spells one certificate or gets one refusal. `README.md` says what is proved.
 #![tactic(auto)]
 
-pub use faults::{OutOfMemory, TextFault, Why};
+pub use faults::{CertificateRefusal, CertificateTextFault, OutOfMemory};
 pub use lists::NumList;
 pub use printers::print_cert;
 pub use readers::read_cert;

@@ -1,13 +1,13 @@
 ghost use Rattle.std.specs.Prelude.{◌≡◌, ◌≢◌, [], ◌∷◌, Result, IfOk, IfErr};
 ghost use Rattle.line_text.specs.Lines.{tokens_of, tokens_after};
-ghost use Rattle.tso_cert.specs.Internal.LineValues.{cert_line_said, step_said, reason_said};
-ghost use Rattle.tso_cert.specs.declared.faults.Why.{Why};
+ghost use Rattle.tso_cert.specs.Internal.LineValues.{cert_line_said, step_said};
+ghost use Rattle.tso_cert.specs.declared.faults.CertificateRefusal.{CertificateRefusal};
 
-use crate::faults::Why;
+use crate::faults::CertificateRefusal;
 use crate::lists::NumList;
-use crate::parts::{read_inferred, read_unwritten};
-use crate::steps::{CertStep, Reason};
-use crate::tokens::{base_rule, event, events, is_decimal, token_of};
+use crate::parts::{read_edge, read_reason, read_unwritten};
+use crate::steps::CertStep;
+use crate::tokens::events;
 use line_text::next_token;
 use std::alloc::Global;
 
@@ -21,9 +21,13 @@ pub(crate) enum Line {
 
 /// What the line of this number says, or its fault.
 #[tactic(auto, unfolding(crate::specs::Internal::LineValues::cert_line_said))]
-pub(crate) fn read_line(alloc: Global, number: usize, line: &[u8]) -> Result<Line, Why>
+pub(crate) fn read_line(
+    alloc: Global,
+    number: usize,
+    line: &[u8],
+) -> Result<Line, CertificateRefusal>
     ensures found { IfOk result (λ l. cert_line_said number (tokens_of line.now) ≡ Result.Ok l) }
-    ensures refused { IfErr result (λ why. why ≢ Why.OutOfMemory → cert_line_said number (tokens_of line.now) ≡ Result.Err why) }
+    ensures refused { IfErr result (λ why. why ≢ CertificateRefusal.OutOfMemory → cert_line_said number (tokens_of line.now) ≡ Result.Err why) }
 {
     let (word, tokens) = next_token(line);
     if word == b"cycle".as_slice() {
@@ -45,36 +49,11 @@ fn read_step(
     number: usize,
     first: &[u8],
     tokens: Option<&[u8]>,
-) -> Result<CertStep, Why>
+) -> Result<CertStep, CertificateRefusal>
     ensures found { IfOk result (λ step. step_said number (first.now ∷ tokens_after tokens.entry) ≡ Result.Ok step) }
-    ensures refused { IfErr result (λ why. why ≢ Why.OutOfMemory → step_said number (first.now ∷ tokens_after tokens.entry) ≡ Result.Err why) }
+    ensures refused { IfErr result (λ why. why ≢ CertificateRefusal.OutOfMemory → step_said number (first.now ∷ tokens_after tokens.entry) ≡ Result.Err why) }
 {
-    let (from, rest) = token_of(tokens)?;
-    let (to, rest) = token_of(rest)?;
-    let (rule, rest) = token_of(rest)?;
-    if !is_decimal(first, number) {
-        return Err(Why::BadNumber);
-    }
-    let from = event(from)?;
-    let to = event(to)?;
-    let reason = read_reason(alloc, rule, rest)?;
+    let (from, to, name, rest) = read_edge(number, first, tokens)?;
+    let reason = read_reason(alloc, name, rest)?;
     Ok(CertStep { from, to, reason })
-}
-
-/// The reason of the name of a rule and the tokens after it.
-#[tactic(auto, unfolding(crate::specs::Internal::LineValues::reason_said))]
-fn read_reason(alloc: Global, name: &[u8], tokens: Option<&[u8]>) -> Result<Reason, Why>
-    ensures found { IfOk result (λ reason. reason_said name.now (tokens_after tokens.entry) ≡ Result.Ok reason) }
-    ensures refused { IfErr result (λ why. why ≢ Why.OutOfMemory → reason_said name.now (tokens_after tokens.entry) ≡ Result.Err why) }
-{
-    match tokens {
-        None => {
-            let rule = base_rule(name)?;
-            Ok(Reason::Base(rule))
-        }
-        Some(line) => {
-            let (load, path) = next_token(line);
-            read_inferred(alloc, name, load, path)
-        }
-    }
 }

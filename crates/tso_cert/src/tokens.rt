@@ -4,26 +4,26 @@ ghost use Rattle.std.specs.Str.{bytes_eq};
 ghost use Rattle.std.specs.Fmt.{decimal};
 ghost use Rattle.line_text.specs.Lines.{tokens_after};
 ghost use Rattle.tso_cert.specs.Internal.LineValues.{event_number, event, events, base_rule, inferred_rule};
-ghost use Rattle.tso_cert.specs.declared.faults.Why.{Why};
+ghost use Rattle.tso_cert.specs.declared.faults.CertificateRefusal.{CertificateRefusal};
 
-use crate::faults::Why;
+use crate::faults::CertificateRefusal;
 use crate::rules::{BaseRule, InferredRule};
 use line_text::{next_token, number_of};
 use std::alloc::Global;
 
 /// The next token, and what stands after its space; BadLine where there is none.
-pub fn token_of(tokens: Option<&[u8]>) -> Result<(&[u8], Option<&[u8]>), Why>
+pub(crate) fn token_of(tokens: Option<&[u8]>) -> Result<(&[u8], Option<&[u8]>), CertificateRefusal>
     ensures found { IfOk result (λ found. tokens_after tokens.entry ≡ found.0.now ∷ tokens_after found.1) }
-    ensures none { IfErr result (λ why. (tokens_after tokens.entry ≡ []) × (why ≡ Why.BadLine)) }
+    ensures none { IfErr result (λ why. (tokens_after tokens.entry ≡ []) × (why ≡ CertificateRefusal.BadLine)) }
 {
     match tokens {
-        None => Err(Why::BadLine),
+        None => Err(CertificateRefusal::BadLine),
         Some(line) => Ok(next_token(line)),
     }
 }
 
 /// Whether a token is this number in decimal.
-pub fn is_decimal(token: &[u8], number: usize) -> bool
+pub(crate) fn is_decimal(token: &[u8], number: usize) -> bool
     ensures { result ≡ bytes_eq token.now (decimal number) }
 {
     number_of(token) == Some(number as u64)
@@ -43,16 +43,16 @@ fn event_number(token: &[u8]) -> Option<u64>
 }
 
 /// The event number that a token spells, or BadNumber.
-pub fn event(token: &[u8]) -> Result<u64, Why>
+pub(crate) fn event(token: &[u8]) -> Result<u64, CertificateRefusal>
     ensures { result ≡ event token.now }
 {
-    event_number(token).ok_or(Why::BadNumber)
+    event_number(token).ok_or(CertificateRefusal::BadNumber)
 }
 
 /// The event numbers of all these tokens, or BadNumber.
-pub fn events(alloc: Global, tokens: Option<&[u8]>) -> Result<Vec<u64>, Why>
+pub fn events(alloc: Global, tokens: Option<&[u8]>) -> Result<Vec<u64>, CertificateRefusal>
     ensures found { IfOk result (λ numbers. events (tokens_after tokens.entry) ≡ Result.Ok numbers.items) }
-    ensures refused { IfErr result (λ why. why ≢ Why.OutOfMemory → events (tokens_after tokens.entry) ≡ Result.Err why) }
+    ensures refused { IfErr result (λ why. why ≢ CertificateRefusal.OutOfMemory → events (tokens_after tokens.entry) ≡ Result.Err why) }
 {
     let mut numbers = Vec::new(alloc);
     let mut left = tokens;
@@ -65,7 +65,7 @@ pub fn events(alloc: Global, tokens: Option<&[u8]>) -> Result<Vec<u64>, Why>
 }
 
 /// The base rule of this name, or BadRule.
-pub fn base_rule(name: &[u8]) -> Result<BaseRule, Why>
+pub fn base_rule(name: &[u8]) -> Result<BaseRule, CertificateRefusal>
     ensures { result ≡ base_rule name.now }
 {
     for k in 0..BaseRule::ALL.len() {
@@ -74,11 +74,11 @@ pub fn base_rule(name: &[u8]) -> Result<BaseRule, Why>
             return Ok(rule);
         }
     }
-    Err(Why::BadRule)
+    Err(CertificateRefusal::BadRule)
 }
 
 /// The inferred rule of this name, or BadRule.
-pub fn inferred_rule(name: &[u8]) -> Result<InferredRule, Why>
+pub(crate) fn inferred_rule(name: &[u8]) -> Result<InferredRule, CertificateRefusal>
     ensures { result ≡ inferred_rule name.now }
 {
     for k in 0..InferredRule::ALL.len() {
@@ -87,5 +87,5 @@ pub fn inferred_rule(name: &[u8]) -> Result<InferredRule, Why>
             return Ok(rule);
         }
     }
-    Err(Why::BadRule)
+    Err(CertificateRefusal::BadRule)
 }

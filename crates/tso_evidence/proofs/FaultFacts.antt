@@ -1,16 +1,17 @@
 -- The tokens of what a line can say: they say it, and have no fault; so a line has one fault, and says nothing where it has it.
 use Rattle.std.proofs.Common.{◌≡◌, ℕ, true, ◌&&◌, eqb, List, [], ◌∷◌, Result, Ok, Err, refl, ap, sym, ◌∙◌, subst}
-use Rattle.std.specs.Prelude.{codes, map, All}
+use Rattle.std.specs.Prelude.{codes, All}
 use Rattle.std.specs.Fmt.{decimal}
 use Rattle.std.proofs.lemmas.Bool.{false≢true}
 use Rattle.std.proofs.lemmas.List.Elements.{All-nil, All-cons}
 use Rattle.tso_cert.specs.declared.steps.Reason.{Reason}
 use Rattle.tso_cert.specs.declared.steps.Reason.TheVariants.{Base, Inferred}
-use Rattle.tso_cert.specs.declared.faults.Why.{Why}
+use Rattle.tso_cert.specs.declared.faults.CertificateRefusal.{CertificateRefusal}
 use Rattle.tso_cert.specs.Printed.{event_text, reason_tokens, ReasonFits, cycle_tokens, unwritten_tokens, Fits}
 use Rattle.tso_cert.specs.Spelling.{IsEventToken, HasStepNumbers}
 use Rattle.tso_cert.specs.Internal.LineValues.{unwritten_said}
-use Rattle.tso_cert.proofs.SayingFacts.{event-text, events-text, events_tokens, decimal_differs, base_said, inferred_said}
+use Rattle.tso_cert.proofs.LineFacts.{events_all, step_numbers}
+use Rattle.tso_cert.proofs.SayingFacts.{event-text, events-text, decimal_differs, base_said, inferred_said}
 use Rattle.tso_evidence.specs.declared.refutations.RefutationLine.{RefutationLine}
 use Rattle.tso_evidence.specs.declared.refutations.RefutationLine.TheVariants.{Step, Case, Else, Cycle}
 use Rattle.tso_evidence.specs.declared.lines.Line.{Line}
@@ -18,7 +19,7 @@ use Rattle.tso_evidence.specs.declared.lines.Line.TheVariants.{Refuting, Unwritt
 use Rattle.tso_evidence.specs.declared.faults.EvidenceFault.{EvidenceFault}
 use Rattle.tso_evidence.specs.declared.faults.EvidenceFault.TheVariants.{BadLine, BadNumber, BadRule, AfterEnd, OutOfMemory}
 use Rattle.tso_evidence.specs.Printed.{line_tokens, order_tokens}
-use Rattle.tso_evidence.specs.Spelling.{has_form, IsLineFault}
+use Rattle.tso_evidence.specs.Spelling.{has_evidence_form, IsEvidenceLineFault}
 use Rattle.tso_evidence.specs.Internal.LineValues.{line_fault, named_said, numbered_said, order_said, evidence_line_said}
 use Rattle.tso_evidence.proofs.SayingFacts.{numbered-tokens, reason_named}
 use Rattle.tso_evidence.proofs.LineFacts.{said_tokens, SaidFits, numbered_form, told, refused}
@@ -45,28 +46,21 @@ said-tokens line k (Order ns) fits = rw (fits.1, events-text ns fits.0) refl
 
 -- ---- and have no fault
 
-events_all : (ns : List ℕ) → All Fits ns → All IsEventToken (map event_text ns)
-events_all ns fits = events_tokens (map event_text ns) ns (events-text ns fits)
-
-two_fit : (u v : ℕ) (ns : List ℕ) → Fits u → Fits v → All Fits ns → All Fits (u ∷ v ∷ ns)
-two_fit u v ns from to more = All-cons Fits u (v ∷ ns) from (All-cons Fits v ns to more)
-
-step_numbers : (k u v : ℕ) (r : Reason) → Fits u → Fits v → ReasonFits r → HasStepNumbers k (decimal k ∷ event_text u ∷ event_text v ∷ reason_tokens r)
-step_numbers k u v (Base rule) from to fits = (refl, events_all (u ∷ v ∷ []) (two_fit u v [] from to (All-nil Fits)))
-step_numbers k u v (Inferred rule load path) from to fits = (refl, events_all (u ∷ v ∷ load ∷ path) (two_fit u v (load ∷ path) from to (All-cons Fits load path fits.0 fits.1)))
+pair_numbers : (k u v : ℕ) → Fits u → Fits v → (decimal k ≡ decimal k) × All IsEventToken (event_text u ∷ event_text v ∷ [])
+pair_numbers k u v from to = (refl, events_all (u ∷ v ∷ []) (All-cons Fits u (v ∷ []) from (All-cons Fits v [] to (All-nil Fits))))
 
 -- a line with the numbers of a step, which is that of a line of a refutation, has no fault
-no_numbered_fault : (line k : ℕ) (l : RefutationLine) (why : EvidenceFault) → HasStepNumbers k (line_tokens k l) → IsLineFault line k (line_tokens k l) why → ⊥
+no_numbered_fault : (line k : ℕ) (l : RefutationLine) (why : EvidenceFault) → HasStepNumbers k (line_tokens k l) → IsEvidenceLineFault line k (line_tokens k l) why → ⊥
 no_numbered_fault line k l BadLine has fault = false≢true (sym fault ∙ (numbered_form line k (line_tokens k l) has).1)
 no_numbered_fault line k l BadNumber has fault = fault.2 has
 no_numbered_fault line k l BadRule has fault = fault.1 l refl
 no_numbered_fault line k l AfterEnd has fault = fault
 no_numbered_fault line k l OutOfMemory has fault = fault
 
-pub no_fault : (line k : ℕ) (l : Line) (why : EvidenceFault) → SaidFits line l → IsLineFault line k (said_tokens k l) why → ⊥
+pub no_fault : (line k : ℕ) (l : Line) (why : EvidenceFault) → SaidFits line l → IsEvidenceLineFault line k (said_tokens k l) why → ⊥
 no_fault line k (Refuting (Step s)) why fits fault = no_numbered_fault line k (Step s) why (step_numbers k s.from s.to s.reason fits.0 fits.1 fits.2) fault
-no_fault line k (Refuting (Case u v)) why fits fault = no_numbered_fault line k (Case u v) why (refl, events_all (u ∷ v ∷ []) (two_fit u v [] fits.0 fits.1 (All-nil Fits))) fault
-no_fault line k (Refuting (Else u v)) why fits fault = no_numbered_fault line k (Else u v) why (refl, events_all (u ∷ v ∷ []) (two_fit u v [] fits.0 fits.1 (All-nil Fits))) fault
+no_fault line k (Refuting (Case u v)) why fits fault = no_numbered_fault line k (Case u v) why (pair_numbers k u v fits.0 fits.1) fault
+no_fault line k (Refuting (Else u v)) why fits fault = no_numbered_fault line k (Else u v) why (pair_numbers k u v fits.0 fits.1) fault
 no_fault line k (Refuting (Cycle ns)) BadLine fits fault = absurd cc
 no_fault line k (Refuting (Cycle ns)) BadNumber fits fault = fault.1 refl (events_all ns fits)
 no_fault line k (Refuting (Cycle ns)) BadRule fits fault = absurd (let s = (numbered_form line k (cycle_tokens ns) fault.0).0 in cc)
@@ -79,11 +73,11 @@ no_fault line k (Order ns) BadRule fits fault = absurd (let s = (numbered_form l
 no_fault line k l AfterEnd fits fault = absurd fault
 no_fault line k l OutOfMemory fits fault = absurd fault
 
-form_of_fault : (line k : ℕ) (ps : List (List ℕ)) → IsLineFault line k ps BadRule → has_form line ps ≡ true
+form_of_fault : (line k : ℕ) (ps : List (List ℕ)) → IsEvidenceLineFault line k ps BadRule → has_evidence_form line ps ≡ true
 form_of_fault line k ps fault = (numbered_form line k ps fault.0).1
 
 -- a line has one fault
-one_fault : (line k : ℕ) (ps : List (List ℕ)) (v w : EvidenceFault) → IsLineFault line k ps v → IsLineFault line k ps w → v ≡ w
+one_fault : (line k : ℕ) (ps : List (List ℕ)) (v w : EvidenceFault) → IsEvidenceLineFault line k ps v → IsEvidenceLineFault line k ps w → v ≡ w
 one_fault line k ps BadLine BadLine one other = refl
 one_fault line k ps BadLine BadNumber one other = absurd (false≢true (sym one ∙ other.0))
 one_fault line k ps BadLine BadRule one other = absurd (false≢true (sym one ∙ form_of_fault line k ps other))
@@ -99,9 +93,9 @@ one_fault line k ps v AfterEnd one other = absurd other
 one_fault line k ps v OutOfMemory one other = absurd other
 
 -- a line with the fault says nothing
-pub fault_said : (line k : ℕ) (ps : List (List ℕ)) (why : EvidenceFault) → IsLineFault line k ps why → (w : Why) × (evidence_line_said line k ps ≡ Err w) × (line_fault w ≡ why)
+pub fault_said : (line k : ℕ) (ps : List (List ℕ)) (why : EvidenceFault) → IsEvidenceLineFault line k ps why → (w : CertificateRefusal) × (evidence_line_said line k ps ≡ Err w) × (line_fault w ≡ why)
 fault_said line k ps why fault = by (evidence_line_said line k ps) refl
   where
-    by : (r : Result Line Why) → evidence_line_said line k ps ≡ r → (w : Why) × (evidence_line_said line k ps ≡ Err w) × (line_fault w ≡ why)
+    by : (r : Result Line CertificateRefusal) → evidence_line_said line k ps ≡ r → (w : CertificateRefusal) × (evidence_line_said line k ps ≡ Err w) × (line_fault w ≡ why)
     by (Err other) is = (other, is, one_fault line k ps (line_fault other) why (refused line k ps other is) fault)
-    by (Ok l) is = let t = told line k ps l is in absurd (no_fault line k l why t.fits (subst (λ qs. IsLineFault line k qs why) t.says fault))
+    by (Ok l) is = let t = told line k ps l is in absurd (no_fault line k l why t.fits (subst (λ qs. IsEvidenceLineFault line k qs why) t.says fault))

@@ -5,4 +5,3 @@ pub mod PrintedFacts
 pub mod CertificateFacts
 pub mod PrintFacts
 pub mod SpellingFacts
-pub mod OutcomeFacts

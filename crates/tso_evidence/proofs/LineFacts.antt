@@ -8,19 +8,19 @@ use Rattle.std.proofs.lemmas.Bool.Decides.{nat_tests}
 use Rattle.std.proofs.lemmas.Slice.Eq.{bytes_eq-Decides}
 use Rattle.line_text.specs.Results.{◌>>=◌}
 use Rattle.tso_cert.specs.declared.steps.CertStep.{CertStep}
-use Rattle.tso_cert.specs.declared.faults.Why.{Why}
-use Rattle.tso_cert.specs.declared.faults.Why.TheVariants.{BadLine, BadNumber, BadRule, NoCycle, AfterCycle, OutOfMemory}
+use Rattle.tso_cert.specs.declared.faults.CertificateRefusal.{CertificateRefusal}
+use Rattle.tso_cert.specs.declared.faults.CertificateRefusal.TheVariants.{BadLine, BadNumber, BadRule, NoCycle, AfterCycle, OutOfMemory}
 use Rattle.tso_cert.specs.Printed.{event_text, step_tokens, cycle_tokens, unwritten_tokens, Fits}
 use Rattle.tso_cert.specs.Spelling.{IsEventToken, is_last_line, HasStepNumbers, IsLineFault as IsCertificateFault}
-use Rattle.tso_cert.specs.Internal.LineValues.{event, events, step_said, unwritten_said, cert_line_said}
-use Rattle.tso_cert.proofs.SayingFacts.{bind_ok, bind_err, cond_true, cond_false, cases, all_first, all_after, event_is, events_are, events_none, decimal_differs, reason_told}
-use Rattle.tso_cert.proofs.LineFacts.{refused as certificate_refused, step_has_form}
+use Rattle.tso_cert.specs.Internal.LineValues.{events, step_said, unwritten_said, cert_line_said}
+use Rattle.tso_cert.proofs.SayingFacts.{bind_one, bind_last, cond_ok, cond_true, cond_false, cases, all_first, all_after, events_none, decimal_differs, reason_told}
+use Rattle.tso_cert.proofs.LineFacts.{refused as certificate_refused, step_has_form, events_line, unwritten_line}
 use Rattle.tso_evidence.specs.declared.refutations.RefutationLine.{RefutationLine}
 use Rattle.tso_evidence.specs.declared.refutations.RefutationLine.TheVariants.{Step, Case, Else, Cycle}
 use Rattle.tso_evidence.specs.declared.lines.Line.{Line}
 use Rattle.tso_evidence.specs.declared.lines.Line.TheVariants.{Refuting, Unwritten, Order}
 use Rattle.tso_evidence.specs.Printed.{line_tokens, order_tokens, LineFits}
-use Rattle.tso_evidence.specs.Spelling.{is_order_line, has_form, IsLineFault}
+use Rattle.tso_evidence.specs.Spelling.{is_order_line, has_evidence_form, IsEvidenceLineFault}
 use Rattle.tso_evidence.specs.Internal.LineValues.{line_fault, named_said, numbered_said, order_said, evidence_line_said}
 use Rattle.tso_evidence.proofs.SayingFacts.{IsNamed, as_case, as_else, as_step, numbered_is, numbered_none, numbered-tokens}
 
@@ -55,7 +55,7 @@ abbrev pub has_word : List (List ℕ) → Bool
 has_word ps = is_order_line ps || is_last_line ps
 
 -- the tokens of a line have the numbers of a step
-pub numbered_form : (line k : ℕ) (ps : List (List ℕ)) → HasStepNumbers k ps → (has_word ps ≡ false) × (has_form line ps ≡ true)
+pub numbered_form : (line k : ℕ) (ps : List (List ℕ)) → HasStepNumbers k ps → (has_word ps ≡ false) × (has_evidence_form line ps ≡ true)
 numbered_form line k [] has = absurd has
 numbered_form line k (w ∷ []) has = absurd has
 numbered_form line k (w ∷ p ∷ []) has = absurd has
@@ -65,59 +65,40 @@ numbered_form line k (w ∷ from ∷ to ∷ name ∷ ps) has =
     rw (has.0, decimal_differs k (codes "order") refl, decimal_differs k (codes "cycle") refl, decimal_differs k (codes "unwritten") refl, high) (refl, refl)
 
 -- a line with a keyword and a token that is no event number
-bad_word : (line k : ℕ) (word : List ℕ) (ps : List (List ℕ)) (why : Why) → has_word (word ∷ ps) ≡ true → has_form line (word ∷ ps) ≡ true → (All IsEventToken ps → ⊥) × (why ≡ BadNumber) →
-    IsLineFault line k (word ∷ ps) (line_fault why)
+bad_word : (line k : ℕ) (word : List ℕ) (ps : List (List ℕ)) (why : CertificateRefusal) → has_word (word ∷ ps) ≡ true → has_evidence_form line (word ∷ ps) ≡ true → (All IsEventToken ps → ⊥) × (why ≡ BadNumber) →
+    IsEvidenceLineFault line k (word ∷ ps) (line_fault why)
 bad_word line k word ps why keyword form none = rw none.1 (form, λ is all. none.0 all, λ has. false≢true (sym (numbered_form line k (word ∷ ps) has).0 ∙ keyword))
 
 -- ---- the line of a cycle
 
 cycle_told : (line k : ℕ) (word : List ℕ) (ps : List (List ℕ)) (l : Line) → bytes_eq word (codes "cycle") ≡ true → (events ps >>= λ ns. Ok (Refuting (Cycle ns))) ≡ Ok l → Told line k (word ∷ ps) l
 cycle_told line k word ps l is e =
-    let ns = bind_ok (events ps) _ l e in
-    let same : Refuting (Cycle ns.0) ≡ l = (let s = ns.2 in cc) in
-    let more = events_are ps ns.0 ns.1 in
-    rw (← same) record { says = ap (λ w. w ∷ ps) ((bytes_eq-Decides word (codes "cycle")).0 is) ∙ ap (λ qs. codes "cycle" ∷ qs) more.0; fits = more.1 }
+    let ns = bind_one (events ps) _ l e in
+    let tokens = events_line (codes "cycle") word ps ns.0 is ns.1 in
+    rw (← ns.2) record { says = tokens.0; fits = tokens.1 }
 
-cycle_refused : (line k : ℕ) (word : List ℕ) (ps : List (List ℕ)) (why : Why) → bytes_eq word (codes "cycle") ≡ true → (events ps >>= λ ns. Ok (Refuting (Cycle ns))) ≡ Err why →
-    IsLineFault line k (word ∷ ps) (line_fault why)
+cycle_refused : (line k : ℕ) (word : List ℕ) (ps : List (List ℕ)) (why : CertificateRefusal) → bytes_eq word (codes "cycle") ≡ true → (events ps >>= λ ns. Ok (Refuting (Cycle ns))) ≡ Err why →
+    IsEvidenceLineFault line k (word ∷ ps) (line_fault why)
 cycle_refused line k word ps why is e =
     let other = differs word (codes "cycle") (codes "order") is refl in
-    ⊎_elim
-    (λ (none : events ps ≡ Err why). bad_word line k word ps why (rw (other, is) refl) (rw (other, is) refl) (events_none ps why none))
-    (λ (ns : (a : List ℕ) × (events ps ≡ Ok a) × (Ok (Refuting (Cycle a)) ≡ Err why)). absurd (let s = ns.2 in cc))
-    (bind_err (events ps) _ why e)
+    let none = bind_last (events ps) _ why e in
+    bad_word line k word ps why (rw (other, is) refl) (rw (other, is) refl) (events_none ps why none)
 
 -- ---- the line of an unwritten load
 
-unwritten_said_so : (line : ℕ) (word : List ℕ) (ps : List (List ℕ)) (why : Why) → bytes_eq word (codes "cycle") ≡ false → bytes_eq word (codes "unwritten") ≡ true → unwritten_said line ps ≡ Err why →
+unwritten_said_so : (line : ℕ) (word : List ℕ) (ps : List (List ℕ)) (why : CertificateRefusal) → bytes_eq word (codes "cycle") ≡ false → bytes_eq word (codes "unwritten") ≡ true → unwritten_said line ps ≡ Err why →
     cert_line_said line (word ∷ ps) ≡ Err why
 unfolding cert_line_said
 unwritten_said_so line word ps why other is e = rw (other, is, e) refl
 
--- just one token on line 1
-unwritten_first : (line : ℕ) (ps : List (List ℕ)) (n : ℕ) → unwritten_said line ps ≡ Ok n → (p : List ℕ) × (ps ≡ p ∷ []) × (line ≡ 1) × (event p ≡ Ok n)
-unfolding unwritten_said
-unwritten_first line [] n e = absurd cc
-unwritten_first line (p ∷ []) n e =
-    ⊎_elim
-    (λ (one : eqb line 1 ≡ true). let at : line ≡ 1 = grind (arith, nat_tests) in (p, refl, at, cond_true (eqb line 1) (event p) (Err BadLine) (Ok n) one e))
-    (λ (other : eqb line 1 ≡ false). absurd (let s = cond_false (eqb line 1) (event p) (Err BadLine) (Ok n) other e in cc))
-    (cases (eqb line 1))
-unwritten_first line (p ∷ q ∷ ps) n e = absurd cc
-
 unwritten_told : (line k : ℕ) (word : List ℕ) (ps : List (List ℕ)) (l : Line) → bytes_eq word (codes "unwritten") ≡ true → (unwritten_said line ps >>= λ n. Ok (Unwritten n)) ≡ Ok l → Told line k (word ∷ ps) l
 unwritten_told line k word ps l is e =
-    let n = bind_ok (unwritten_said line ps) _ l e in
-    let same : Unwritten n.0 ≡ l = (let s = n.2 in cc) in
-    let u = unwritten_first line ps n.0 n.1 in
-    let one = event_is u.0 n.0 u.3 in
-    rw (← same) record {
-      says = ap (λ qs. word ∷ qs) u.1 ∙ ap (λ w. w ∷ u.0 ∷ []) ((bytes_eq-Decides word (codes "unwritten")).0 is) ∙ ap (λ q. codes "unwritten" ∷ q ∷ []) one.0;
-      fits = (one.1, u.2);
-    }
+    let n = bind_one (unwritten_said line ps) _ l e in
+    let tokens = unwritten_line line word ps n.0 is n.1 in
+    rw (← n.2) record { says = tokens.0; fits = (tokens.1, tokens.2) }
 
 -- a fault of the line in a certificate is its fault
-unwritten_fault : (line k : ℕ) (word : List ℕ) (ps : List (List ℕ)) (why : Why) → bytes_eq word (codes "unwritten") ≡ true → IsCertificateFault line (word ∷ ps) why → IsLineFault line k (word ∷ ps) (line_fault why)
+unwritten_fault : (line k : ℕ) (word : List ℕ) (ps : List (List ℕ)) (why : CertificateRefusal) → bytes_eq word (codes "unwritten") ≡ true → IsCertificateFault line (word ∷ ps) why → IsEvidenceLineFault line k (word ∷ ps) (line_fault why)
 unwritten_fault line k word ps BadLine is fault = rw (differs word (codes "unwritten") (codes "order") is refl) fault
 unwritten_fault line k word ps BadNumber is fault =
     let order = differs word (codes "unwritten") (codes "order") is refl in
@@ -137,17 +118,13 @@ unwritten_fault line k word ps OutOfMemory is fault = absurd fault
 order_told : (line k : ℕ) (word : List ℕ) (ps : List (List ℕ)) (l : Line) → bytes_eq word (codes "order") ≡ true → (order_said line ps >>= λ ns. Ok (Order ns)) ≡ Ok l → Told line k (word ∷ ps) l
 unfolding order_said
 order_told line k word ps l is e =
-    let ns = bind_ok (order_said line ps) _ l e in
-    let same : Order ns.0 ≡ l = (let s = ns.2 in cc) in
-    ⊎_elim
-    (λ (one : eqb line 1 ≡ true).
-    let at : line ≡ 1 = grind (arith, nat_tests) in
-    let more = events_are ps ns.0 (cond_true (eqb line 1) (events ps) (Err BadLine) (Ok ns.0) one ns.1) in
-    rw (← same) record { says = ap (λ w. w ∷ ps) ((bytes_eq-Decides word (codes "order")).0 is) ∙ ap (λ qs. codes "order" ∷ qs) more.0; fits = (more.1, at) })
-    (λ (later : eqb line 1 ≡ false). absurd (let s = cond_false (eqb line 1) (events ps) (Err BadLine) (Ok ns.0) later ns.1 in cc))
-    (cases (eqb line 1))
+    let ns = bind_one (order_said line ps) _ l e in
+    let one = cond_ok (eqb line 1) (events ps) BadLine ns.0 ns.1 in
+    let at : line ≡ 1 = (let t = one.0 in grind (arith, nat_tests)) in
+    let tokens = events_line (codes "order") word ps ns.0 is one.1 in
+    rw (← ns.2) record { says = tokens.0; fits = (tokens.1, at) }
 
-order_refused : (line k : ℕ) (word : List ℕ) (ps : List (List ℕ)) (why : Why) → bytes_eq word (codes "order") ≡ true → order_said line ps ≡ Err why → IsLineFault line k (word ∷ ps) (line_fault why)
+order_refused : (line k : ℕ) (word : List ℕ) (ps : List (List ℕ)) (why : CertificateRefusal) → bytes_eq word (codes "order") ≡ true → order_said line ps ≡ Err why → IsEvidenceLineFault line k (word ∷ ps) (line_fault why)
 unfolding order_said
 order_refused line k word ps why is e =
     ⊎_elim
@@ -193,7 +170,7 @@ else_said k from to all =
     )
 
 -- a line that says nothing is that of nothing
-not_said : (k : ℕ) (ps : List (List ℕ)) (why : Why) → numbered_said k ps ≡ Err why → HasStepNumbers k ps → ((s : CertStep) → ps ≡ step_tokens k s → ⊥) → (l : RefutationLine) → ps ≡ line_tokens k l → ⊥
+not_said : (k : ℕ) (ps : List (List ℕ)) (why : CertificateRefusal) → numbered_said k ps ≡ Err why → HasStepNumbers k ps → ((s : CertStep) → ps ≡ step_tokens k s → ⊥) → (l : RefutationLine) → ps ≡ line_tokens k l → ⊥
 not_said k ps why none has no_step (Step s) is = no_step s is
 not_said k ps why none has no_step (Case u v) is =
     let all = (subst (HasStepNumbers k) is has).1 in
@@ -207,7 +184,7 @@ not_said k ps why none has no_step (Cycle ns) is =
     absurd (let s : false ≡ true = sym (numbered_form 1 k (cycle_tokens ns) (subst (HasStepNumbers k) is has)).0 in cc)
 
 -- its fault in a certificate is its fault
-numbered_fault : (line k : ℕ) (word : List ℕ) (ps : List (List ℕ)) (why : Why) → NoWord word → numbered_said k (word ∷ ps) ≡ Err why → IsCertificateFault k (word ∷ ps) why → IsLineFault line k (word ∷ ps) (line_fault why)
+numbered_fault : (line k : ℕ) (word : List ℕ) (ps : List (List ℕ)) (why : CertificateRefusal) → NoWord word → numbered_said k (word ∷ ps) ≡ Err why → IsCertificateFault k (word ∷ ps) why → IsEvidenceLineFault line k (word ∷ ps) (line_fault why)
 numbered_fault line k word ps BadLine plain e fault = let f : nat_le 4 (suc (length ps)) ≡ false = rw (plain.0, plain.1) at fault in rw (plain.0, plain.1, plain.2) f
 numbered_fault line k word ps BadNumber plain e fault =
     let f : nat_le 4 (suc (length ps)) ≡ true = rw (plain.0, plain.1) at fault.0 in
@@ -218,24 +195,24 @@ numbered_fault line k word ps NoCycle plain e fault = absurd fault
 numbered_fault line k word ps AfterCycle plain e fault = absurd fault
 numbered_fault line k word ps OutOfMemory plain e fault = absurd fault
 
-step_said_so : (k : ℕ) (word : List ℕ) (ps : List (List ℕ)) (why : Why) → NoWord word → step_said k (word ∷ ps) ≡ Err why → cert_line_said k (word ∷ ps) ≡ Err why
+step_said_so : (k : ℕ) (word : List ℕ) (ps : List (List ℕ)) (why : CertificateRefusal) → NoWord word → step_said k (word ∷ ps) ≡ Err why → cert_line_said k (word ∷ ps) ≡ Err why
 unfolding cert_line_said
 step_said_so k word ps why plain e = rw (plain.0, plain.1, e) refl
 
-numbered_refused : (line k : ℕ) (word : List ℕ) (ps : List (List ℕ)) (why : Why) → NoWord word → numbered_said k (word ∷ ps) ≡ Err why → IsLineFault line k (word ∷ ps) (line_fault why)
+numbered_refused : (line k : ℕ) (word : List ℕ) (ps : List (List ℕ)) (why : CertificateRefusal) → NoWord word → numbered_said k (word ∷ ps) ≡ Err why → IsEvidenceLineFault line k (word ∷ ps) (line_fault why)
 numbered_refused line k word ps why plain e =
     numbered_fault line k word ps why plain e (certificate_refused k (word ∷ ps) why (step_said_so k word ps why plain (numbered_none k (word ∷ ps) why e)))
 
 -- ---- any line
 
 -- what a line with this first token says
-pub data Saying (line k : ℕ) (word : List ℕ) (ps : List (List ℕ)) (said : Result Line Why) : Type 0 where
+pub data Saying (line k : ℕ) (word : List ℕ) (ps : List (List ℕ)) (said : Result Line CertificateRefusal) : Type 0 where
   of_cycle : bytes_eq word (codes "cycle") ≡ true → (events ps >>= λ ns. Ok (Refuting (Cycle ns))) ≡ said → Saying line k word ps said
   of_unwritten : bytes_eq word (codes "cycle") ≡ false → bytes_eq word (codes "unwritten") ≡ true → (unwritten_said line ps >>= λ n. Ok (Unwritten n)) ≡ said → Saying line k word ps said
   of_order : bytes_eq word (codes "order") ≡ true → (order_said line ps >>= λ ns. Ok (Order ns)) ≡ said → Saying line k word ps said
   of_number : NoWord word → (numbered_said k (word ∷ ps) >>= λ l. Ok (Refuting l)) ≡ said → Saying line k word ps said
 
-saying : (line k : ℕ) (word : List ℕ) (ps : List (List ℕ)) (said : Result Line Why) → evidence_line_said line k (word ∷ ps) ≡ said → Saying line k word ps said
+saying : (line k : ℕ) (word : List ℕ) (ps : List (List ℕ)) (said : Result Line CertificateRefusal) → evidence_line_said line k (word ∷ ps) ≡ said → Saying line k word ps said
 unfolding evidence_line_said
 saying line k word ps said e =
     ⊎_elim
@@ -264,30 +241,23 @@ told line k (word ∷ ps) l e = by (saying line k word ps (Ok l) e)
     by (of_unwritten other is said) = unwritten_told line k word ps l is said
     by (of_order is said) = order_told line k word ps l is said
     by (of_number plain said) =
-        let r = bind_ok (numbered_said k (word ∷ ps)) _ l said in
-        let same : Refuting r.0 ≡ l = (let t = r.2 in cc) in
-        rw (← same) (numbered_told line k (word ∷ ps) r.0 r.1)
+        let r = bind_one (numbered_said k (word ∷ ps)) _ l said in
+        rw (← r.2) (numbered_told line k (word ∷ ps) r.0 r.1)
 
 -- a line that says nothing has the fault
-pub refused : (line k : ℕ) (ps : List (List ℕ)) (why : Why) → evidence_line_said line k ps ≡ Err why → IsLineFault line k ps (line_fault why)
+pub refused : (line k : ℕ) (ps : List (List ℕ)) (why : CertificateRefusal) → evidence_line_said line k ps ≡ Err why → IsEvidenceLineFault line k ps (line_fault why)
 unfolding evidence_line_said
 refused line k [] why e = let s : BadLine ≡ why = cc in rw (← s) refl
 refused line k (word ∷ ps) why e = by (saying line k word ps (Err why) e)
   where
-    by : Saying line k word ps (Err why) → IsLineFault line k (word ∷ ps) (line_fault why)
+    by : Saying line k word ps (Err why) → IsEvidenceLineFault line k (word ∷ ps) (line_fault why)
     by (of_cycle is said) = cycle_refused line k word ps why is said
     by (of_unwritten other is said) =
-        ⊎_elim
-        (λ (none : unwritten_said line ps ≡ Err why). unwritten_fault line k word ps why is (certificate_refused line (word ∷ ps) why (unwritten_said_so line word ps why other is none)))
-        (λ (n : (a : ℕ) × (unwritten_said line ps ≡ Ok a) × (Ok (Unwritten a) ≡ Err why)). absurd (let s = n.2 in cc))
-        (bind_err (unwritten_said line ps) _ why said)
+        let none = bind_last (unwritten_said line ps) _ why said in
+        unwritten_fault line k word ps why is (certificate_refused line (word ∷ ps) why (unwritten_said_so line word ps why other is none))
     by (of_order is said) =
-        ⊎_elim
-        (λ (none : order_said line ps ≡ Err why). order_refused line k word ps why is none)
-        (λ (n : (a : List ℕ) × (order_said line ps ≡ Ok a) × (Ok (Order a) ≡ Err why)). absurd (let s = n.2 in cc))
-        (bind_err (order_said line ps) _ why said)
+        let none = bind_last (order_said line ps) _ why said in
+        order_refused line k word ps why is none
     by (of_number plain said) =
-        ⊎_elim
-        (λ (none : numbered_said k (word ∷ ps) ≡ Err why). numbered_refused line k word ps why plain none)
-        (λ (n : (a : RefutationLine) × (numbered_said k (word ∷ ps) ≡ Ok a) × (Ok (Refuting a) ≡ Err why)). absurd (let s = n.2 in cc))
-        (bind_err (numbered_said k (word ∷ ps)) _ why said)
+        let none = bind_last (numbered_said k (word ∷ ps)) _ why said in
+        numbered_refused line k word ps why plain none

@@ -4,13 +4,14 @@ use Rattle.std.specs.Prelude.{codes}
 use Rattle.std.specs.Fmt.{decimal}
 use Rattle.std.specs.Str.{bytes_eq}
 use Rattle.std.proofs.lemmas.Slice.Eq.{bytes_eq-Decides}
-use Rattle.line_text.specs.Results.{◌>>=◌}
+use Rattle.line_text.specs.Lines.{SomeToken}
 use Rattle.tso_cert.specs.declared.steps.Reason.{Reason}
-use Rattle.tso_cert.specs.declared.faults.Why.{Why}
-use Rattle.tso_cert.specs.declared.faults.Why.TheVariants.{BadLine, BadNumber, BadRule}
+use Rattle.tso_cert.specs.declared.faults.CertificateRefusal.{CertificateRefusal}
+use Rattle.tso_cert.specs.declared.faults.CertificateRefusal.TheVariants.{BadRule}
 use Rattle.tso_cert.specs.Printed.{event_text, Fits}
-use Rattle.tso_cert.specs.Internal.LineValues.{event, reason_said, step_said, base_rule}
-use Rattle.tso_cert.proofs.SayingFacts.{bind_ok, bind_err, cond_true, cond_false, cases, event_is, event-text}
+use Rattle.tso_cert.specs.Internal.LineValues.{edge_said, reason_said, step_said, base_rule}
+use Rattle.tso_cert.proofs.SayingFacts.{bind_ok, bind_err, bind_one, bind_last, cond_true, cond_false, cases}
+use Rattle.tso_cert.proofs.LineFacts.{edge_is, edge-tokens}
 use Rattle.tso_evidence.specs.declared.refutations.RefutationLine.{RefutationLine}
 use Rattle.tso_evidence.specs.declared.refutations.RefutationLine.TheVariants.{Step, Case, Else}
 use Rattle.tso_evidence.specs.Internal.LineValues.{step_of, named_said, numbered_said}
@@ -25,9 +26,8 @@ pub data IsNamed (u v : ℕ) (name : List ℕ) (ps : List (List ℕ)) : Refutati
 
 step_named : (u v : ℕ) (name : List ℕ) (ps : List (List ℕ)) (l : RefutationLine) → step_of u v name ps ≡ Ok l → IsNamed u v name ps l
 step_named u v name ps l e =
-    let r = bind_ok (reason_said name ps) _ l e in
-    let same : Step (record { from = u; to = v; reason = r.0 }) ≡ l = (let s = r.2 in cc) in
-    rw (← same) (as_step r.0 r.1)
+    let r = bind_one (reason_said name ps) _ l e in
+    rw (← r.2) (as_step r.0 r.1)
 
 pub named_is : (u v : ℕ) (name : List ℕ) (ps : List (List ℕ)) (l : RefutationLine) → named_said u v name ps ≡ Ok l → IsNamed u v name ps l
 unfolding named_said
@@ -47,15 +47,13 @@ named_is u v name [] l e =
     (cases (bytes_eq name (codes "Case")))
 named_is u v name (load ∷ path) l e = step_named u v name (load ∷ path) l e
 
-step_none : (u v : ℕ) (name : List ℕ) (ps : List (List ℕ)) (why : Why) → step_of u v name ps ≡ Err why → reason_said name ps ≡ Err why
+step_none : (u v : ℕ) (name : List ℕ) (ps : List (List ℕ)) (why : CertificateRefusal) → step_of u v name ps ≡ Err why → reason_said name ps ≡ Err why
 step_none u v name ps why e =
-    ⊎_elim
-    (λ (none : reason_said name ps ≡ Err why). none)
-    (λ (r : (a : Reason) × (reason_said name ps ≡ Ok a) × (Ok (Step (record { from = u; to = v; reason = a })) ≡ Err why)). absurd (let s = r.2 in cc))
-    (bind_err (reason_said name ps) _ why e)
+    let none = bind_last (reason_said name ps) _ why e in
+    none
 
 -- no reason has tokens that are none of these
-pub named_none : (u v : ℕ) (name : List ℕ) (ps : List (List ℕ)) (why : Why) → named_said u v name ps ≡ Err why → reason_said name ps ≡ Err why
+pub named_none : (u v : ℕ) (name : List ℕ) (ps : List (List ℕ)) (why : CertificateRefusal) → named_said u v name ps ≡ Err why → reason_said name ps ≡ Err why
 unfolding named_said
 named_none u v name [] why e =
     ⊎_elim
@@ -94,61 +92,32 @@ reason_named u v name [] r is =
     rw (no_case, no_else, is) refl
 reason_named u v name (load ∷ path) r is = rw is refl
 
+-- where more tokens stand, only a step can have the name
+pub named-more : (u v : ℕ) (name : List ℕ) (ps : List (List ℕ)) → SomeToken ps → named_said u v name ps ≡ step_of u v name ps
+unfolding named_said
+named-more u v name ps some = rw some.parts refl
+
 -- ---- numbered lines
 
--- a line that says a step says it in a certificate too
+-- a line that says something says of two events what it is named
 pub numbered_is : (k : ℕ) (ps : List (List ℕ)) (l : RefutationLine) → numbered_said k ps ≡ Ok l →
     (u v : ℕ) × (name : List ℕ) × (qs : List (List ℕ)) × (ps ≡ decimal k ∷ event_text u ∷ event_text v ∷ name ∷ qs) × (Fits u × Fits v) × IsNamed u v name qs l
 unfolding numbered_said
-numbered_is k [] l e = absurd cc
-numbered_is k (w ∷ []) l e = absurd cc
-numbered_is k (w ∷ p ∷ []) l e = absurd cc
-numbered_is k (w ∷ p ∷ q ∷ []) l e = absurd cc
-numbered_is k (word ∷ from ∷ to ∷ name ∷ ps) l e =
-    ⊎_elim
-    (λ (same : bytes_eq word (decimal k) ≡ true).
-    let rest = cond_true (bytes_eq word (decimal k)) (event from >>= λ u. event to >>= λ v. named_said u v name ps) (Err BadNumber) (Ok l) same e in
-    let u = bind_ok (event from) _ l rest in
-    let v = bind_ok (event to) _ l u.2 in
-    let a = event_is from u.0 u.1 in
-    let b = event_is to v.0 v.1 in (
-      u.0,
-      v.0,
-      name,
-      ps,
-      ap (λ w. w ∷ from ∷ to ∷ name ∷ ps) ((bytes_eq-Decides word (decimal k)).0 same) ∙ ap (λ w. decimal k ∷ w ∷ to ∷ name ∷ ps) a.0 ∙ ap (λ w. decimal k ∷ event_text u.0 ∷ w ∷ name ∷ ps) b.0,
-      (a.1, b.1),
-      named_is u.0 v.0 name ps l v.2,
-    ))
-    (λ (differs : bytes_eq word (decimal k) ≡ false).
-    absurd (let t = cond_false (bytes_eq word (decimal k)) (event from >>= λ u. event to >>= λ v. named_said u v name ps) (Err BadNumber) (Ok l) differs e in cc))
-    (cases (bytes_eq word (decimal k)))
+numbered_is k ps l is =
+    let a = bind_ok (edge_said k ps) _ l is in
+    let e = edge_is k ps a.0 a.1 in
+    (a.0.0, a.0.1, a.0.2, a.0.3, e.0, (e.1, e.2), named_is a.0.0 a.0.1 a.0.2 a.0.3 l a.2)
 
 -- a line with a fault says no step either, for the same fault
-pub numbered_none : (k : ℕ) (ps : List (List ℕ)) (why : Why) → numbered_said k ps ≡ Err why → step_said k ps ≡ Err why
+pub numbered_none : (k : ℕ) (ps : List (List ℕ)) (why : CertificateRefusal) → numbered_said k ps ≡ Err why → step_said k ps ≡ Err why
 unfolding numbered_said step_said
-numbered_none k [] why e = let s : BadLine ≡ why = cc in rw s refl
-numbered_none k (w ∷ []) why e = let s : BadLine ≡ why = cc in rw s refl
-numbered_none k (w ∷ p ∷ []) why e = let s : BadLine ≡ why = cc in rw s refl
-numbered_none k (w ∷ p ∷ q ∷ []) why e = let s : BadLine ≡ why = cc in rw s refl
-numbered_none k (word ∷ from ∷ to ∷ name ∷ ps) why e =
+numbered_none k ps why is =
     ⊎_elim
-    (λ (same : bytes_eq word (decimal k) ≡ true).
-    let rest = cond_true (bytes_eq word (decimal k)) (event from >>= λ u. event to >>= λ v. named_said u v name ps) (Err BadNumber) (Err why) same e in
-    ⊎_elim
-    (λ (no_from : event from ≡ Err why). rw (same, no_from) refl)
-    (λ (u : (n : ℕ) × (event from ≡ Ok n) × ((event to >>= λ v. named_said n v name ps) ≡ Err why)).
-    ⊎_elim
-    (λ (no_to : event to ≡ Err why). rw (same, u.1, no_to) refl)
-    (λ (v : (n : ℕ) × (event to ≡ Ok n) × (named_said u.0 n name ps ≡ Err why)). rw (same, u.1, v.1, named_none u.0 v.0 name ps why v.2) refl)
-    (bind_err (event to) _ why u.2))
-    (bind_err (event from) _ why rest))
-    (λ (differs : bytes_eq word (decimal k) ≡ false).
-    let s : BadNumber ≡ why = (let t = cond_false (bytes_eq word (decimal k)) (event from >>= λ u. event to >>= λ v. named_said u v name ps) (Err BadNumber) (Err why) differs e in cc) in
-    rw (differs, s) refl)
-    (cases (bytes_eq word (decimal k)))
+    (λ (none : edge_said k ps ≡ Err why). rw none refl)
+    (λ (a : (e : ℕ × ℕ × List ℕ × List (List ℕ)) × (edge_said k ps ≡ Ok e) × (named_said e.0 e.1 e.2 e.3 ≡ Err why)). rw (a.1, named_none a.0.0 a.0.1 a.0.2 a.0.3 why a.2) refl)
+    (bind_err (edge_said k ps) _ why is)
 
 -- what the tokens of a line say
 pub numbered-tokens : (k u v : ℕ) (name : List ℕ) (ps : List (List ℕ)) (l : RefutationLine) → Fits u → Fits v → named_said u v name ps ≡ Ok l → numbered_said k (decimal k ∷ event_text u ∷ event_text v ∷ name ∷ ps) ≡ Ok l
 unfolding numbered_said
-numbered-tokens k u v name ps l from to is = rw ((bytes_eq-Decides (decimal k) (decimal k)).1 refl, event-text u from, event-text v to, is) refl
+numbered-tokens k u v name ps l from to is = rw (edge-tokens k u v name ps from to) is

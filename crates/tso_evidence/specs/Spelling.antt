@@ -23,16 +23,16 @@ abbrev pub is_order_line : List (List ℕ) → Bool
 is_order_line tokens = bytes_eq (get_or tokens 0 []) (codes "order")
 
 -- a line `order` on line 1; or a line `cycle`, a line `unwritten` of two tokens on line 1, or another of at least four, as in certificates
-abbrev pub has_form : ℕ → List (List ℕ) → Bool
-has_form line tokens = if is_order_line tokens then line == 1 else has_certificate_form line tokens
+abbrev pub has_evidence_form : ℕ → List (List ℕ) → Bool
+has_evidence_form line tokens = if is_order_line tokens then line == 1 else has_certificate_form line tokens
 
 -- The line of the text has the fault, by its tokens; it has the number where it is no line `cycle`, `unwritten` or `order`.
-abbrev pub IsLineFault : ℕ → ℕ → List (List ℕ) → EvidenceFault → Type 0
-IsLineFault line number tokens BadLine = has_form line tokens ≡ false
-IsLineFault line number tokens BadNumber =
-    (has_form line tokens ≡ true) × ((is_order_line tokens || is_last_line tokens) ≡ true → All IsEventToken (drop 1 tokens) → ⊥) × (HasStepNumbers number tokens → ⊥)
-IsLineFault line number tokens BadRule = HasStepNumbers number tokens × ((l : RefutationLine) → tokens ≡ line_tokens number l → ⊥)
-IsLineFault line number tokens _ = ⊥
+abbrev pub IsEvidenceLineFault : ℕ → ℕ → List (List ℕ) → EvidenceFault → Type 0
+IsEvidenceLineFault line number tokens BadLine = has_evidence_form line tokens ≡ false
+IsEvidenceLineFault line number tokens BadNumber =
+    (has_evidence_form line tokens ≡ true) × ((is_order_line tokens || is_last_line tokens) ≡ true → All IsEventToken (drop 1 tokens) → ⊥) × (HasStepNumbers number tokens → ⊥)
+IsEvidenceLineFault line number tokens BadRule = HasStepNumbers number tokens × ((l : RefutationLine) → tokens ≡ line_tokens number l → ⊥)
+IsEvidenceLineFault line number tokens _ = ⊥
 
 -- ---- texts
 
@@ -45,12 +45,12 @@ IsOfOneLine _ = Unit {0}
 unfoldable pub IsEvidenceTextRefusal : List ℕ → ℕ → EvidenceFault → Type 0
 IsEvidenceTextRefusal text line why =
     ((lines : List RefutationLine) × All LineFits lines
-    × IsRefusedAfter text (flat_map line_text (lines_tokens 1 lines)) line (λ rest. (rest ≢ []) × ArePartsRefused BadLine BadLine (IsLineFault line (number_past 1 lines)) (parts_of rest) why))
-    ⊎ ((e : Evidence) × IsOfOneLine e × EvidenceFits e × IsRefusedAfter text (evidence_text e) line (λ rest. (rest ≢ []) × (why ≡ AfterEnd)))
+    × IsRefusedAfter text (flat_map line_text (lines_tokens 1 lines)) line (λ rest. (rest ≢ []) × ArePartsRefused BadLine BadLine (IsEvidenceLineFault line (number_past 1 lines)) (parts_of rest) why))
+    ⊎ ((e : Evidence) × (IsOfOneLine e × EvidenceFits e) × IsRefusedAfter text (evidence_text e) line (λ rest. (rest ≢ []) × (why ≡ AfterEnd)))
 
 -- some evidence, some refusal
-abbrev pub IsSpelled : List ℕ → Type 0
-IsSpelled text = (e : Evidence) × SpellsEvidence text e
+abbrev pub IsSpelledEvidence : List ℕ → Type 0
+IsSpelledEvidence text = (e : Evidence) × SpellsEvidence text e
 
-abbrev pub IsRefused : List ℕ → Type 0
-IsRefused text = (line : ℕ) × (why : EvidenceFault) × IsEvidenceTextRefusal text line why
+abbrev pub IsRefusedEvidence : List ℕ → Type 0
+IsRefusedEvidence text = (line : ℕ) × (why : EvidenceFault) × IsEvidenceTextRefusal text line why

@@ -40,7 +40,7 @@ impl EvidenceFault {
 /// Why the text of evidence is refused, and at which line: from 1, or 0 for OutOfMemory.
 #[derive(Clone, Copy, Debug, PartialEq, Eq, Error)]
 #[error("{why} line {line}")]
-pub struct TextFault {
+pub struct EvidenceTextFault {
     /// The line.
     pub line: usize,
     /// The refusal.

@@ -6,18 +6,19 @@ ghost use Rattle.tso_cert.specs.Spelling.{SpellsCertificate};
 ghost use Rattle.tso_cert.specs.declared.steps.Certificate.{Certificate};
 ghost use Rattle.tso_evidence.specs.Printed.{evidence_text, EvidenceFits};
 ghost use Rattle.tso_evidence.specs.Certificates.{evidence_of};
-ghost use Rattle.tso_evidence.specs.Spelling.{SpellsEvidence, IsEvidenceTextRefusal, IsSpelled, IsRefused};
+ghost use Rattle.tso_evidence.specs.Spelling.{SpellsEvidence, IsEvidenceTextRefusal, IsSpelledEvidence, IsRefusedEvidence};
 ghost use Rattle.tso_evidence.specs.declared.faults.EvidenceFault.{EvidenceFault};
 ghost use Rattle.tso_evidence.specs.declared.evidence.Evidence.{Evidence};
 
 /// Each text spells evidence or is refused, never both; it spells one evidence, and gets one refusal;
 /// what spells evidence is its printed text, and the printed text of evidence spells it.
 pub fn texts_of_evidence()
-    ensures spelled_or_refused { (text : List ℕ) → IsSpelled text ⊎ IsRefused text }
-    ensures never_both { (text : List ℕ) → IsSpelled text → IsRefused text → ⊥ }
+    ensures spelled_or_refused { (text : List ℕ) → IsSpelledEvidence text ⊎ IsRefusedEvidence text }
+    ensures never_both { (text : List ℕ) → IsSpelledEvidence text → IsRefusedEvidence text → ⊥ }
     ensures one_value { (text : List ℕ) (d e : Evidence) → SpellsEvidence text d → SpellsEvidence text e → d ≡ e }
     ensures one_text { (text : List ℕ) (e : Evidence) → SpellsEvidence text e → text ≡ evidence_text e }
-    ensures one_refusal { (text : List ℕ) (j k : ℕ) (v w : EvidenceFault) → IsEvidenceTextRefusal text j v → IsEvidenceTextRefusal text k w → (j ≡ k) × (v ≡ w) }
+    ensures one_refusal { (text : List ℕ) (j k : ℕ) (v w : EvidenceFault) → IsEvidenceTextRefusal text j v → IsEvidenceTextRefusal text k w →
+        (j ≡ k) × (v ≡ w) }
     ensures printed { (e : Evidence) → EvidenceFits e → SpellsEvidence (evidence_text e) e }
 {}
 

@@ -4,7 +4,7 @@
 #![tactic(auto)]
 
 pub use evidence::Evidence;
-pub use faults::{EvidenceFault, TextFault};
+pub use faults::{EvidenceFault, EvidenceTextFault};
 pub use printers::print_evidence;
 pub use readers::read_evidence;
 pub use refutations::{LineList, RefutationLine};

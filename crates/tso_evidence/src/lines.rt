@@ -1,15 +1,15 @@
-ghost use Rattle.std.specs.Prelude.{◌≡◌, ◌≢◌, ◌+◌, ◌<◌, ◌^◌, [], ◌∷◌, Result, IfOk, IfErr};
+ghost use Rattle.std.specs.Prelude.{◌≡◌, ◌≢◌, ◌+◌, ◌<◌, ◌^◌, ◌∷◌, Result, IfOk, IfErr};
 ghost use Rattle.line_text.specs.Lines.{tokens_of, tokens_after};
-ghost use Rattle.tso_cert.specs.declared.faults.Why.{Why};
+ghost use Rattle.tso_cert.specs.declared.faults.CertificateRefusal.{CertificateRefusal};
 ghost use Rattle.tso_evidence.specs.Printed.{number_after};
 ghost use Rattle.tso_evidence.specs.Internal.LineValues.{evidence_line_said, order_said, numbered_said, named_said};
 
 use crate::refutations::RefutationLine;
 use line_text::next_token;
 use std::alloc::Global;
-use tso_cert::parts::{read_inferred, read_unwritten};
-use tso_cert::tokens::{base_rule, event, events, is_decimal, token_of};
-use tso_cert::{CertStep, NumList, Reason, Why};
+use tso_cert::parts::{read_edge, read_reason, read_unwritten};
+use tso_cert::tokens::{base_rule, events};
+use tso_cert::{CertStep, CertificateRefusal, NumList, Reason};
 
 /// What a line of evidence says.
 #[derive(Drop)]
@@ -37,9 +37,9 @@ pub(crate) fn read_line(
     line: usize,
     number: usize,
     bytes: &[u8],
-) -> Result<Line, Why>
+) -> Result<Line, CertificateRefusal>
     ensures found { IfOk result (λ l. evidence_line_said line number (tokens_of bytes.now) ≡ Result.Ok l) }
-    ensures refused { IfErr result (λ why. why ≢ Why.OutOfMemory → evidence_line_said line number (tokens_of bytes.now) ≡ Result.Err why) }
+    ensures refused { IfErr result (λ why. why ≢ CertificateRefusal.OutOfMemory → evidence_line_said line number (tokens_of bytes.now) ≡ Result.Err why) }
 {
     let (word, tokens) = next_token(bytes);
     if word == b"cycle".as_slice() {
@@ -59,12 +59,16 @@ pub(crate) fn read_line(
 
 /// The events of a line `order`, of the tokens after the keyword.
 #[tactic(auto, unfolding(crate::specs::Internal::LineValues::order_said))]
-fn read_order(alloc: Global, line: usize, tokens: Option<&[u8]>) -> Result<NumList, Why>
+fn read_order(
+    alloc: Global,
+    line: usize,
+    tokens: Option<&[u8]>,
+) -> Result<NumList, CertificateRefusal>
     ensures found { IfOk result (λ numbers. order_said line (tokens_after tokens.entry) ≡ Result.Ok numbers) }
-    ensures refused { IfErr result (λ why. why ≢ Why.OutOfMemory → order_said line (tokens_after tokens.entry) ≡ Result.Err why) }
+    ensures refused { IfErr result (λ why. why ≢ CertificateRefusal.OutOfMemory → order_said line (tokens_after tokens.entry) ≡ Result.Err why) }
 {
     if line != 1 {
-        return Err(Why::BadLine);
+        return Err(CertificateRefusal::BadLine);
     }
     let numbers = events(alloc, tokens)?;
     Ok(NumList::new(numbers))
@@ -77,53 +81,37 @@ fn read_numbered(
     number: usize,
     first: &[u8],
     tokens: Option<&[u8]>,
-) -> Result<RefutationLine, Why>
+) -> Result<RefutationLine, CertificateRefusal>
     ensures found { IfOk result (λ l. numbered_said number (first.now ∷ tokens_after tokens.entry) ≡ Result.Ok l) }
-    ensures refused { IfErr result (λ why. why ≢ Why.OutOfMemory → numbered_said number (first.now ∷ tokens_after tokens.entry) ≡ Result.Err why) }
+    ensures refused { IfErr result (λ why. why ≢ CertificateRefusal.OutOfMemory → numbered_said number (first.now ∷ tokens_after tokens.entry) ≡ Result.Err why) }
 {
-    let (from, rest) = token_of(tokens)?;
-    let (to, rest) = token_of(rest)?;
-    let (name, rest) = token_of(rest)?;
-    if !is_decimal(first, number) {
-        return Err(Why::BadNumber);
-    }
-    let from = event(from)?;
-    let to = event(to)?;
+    let (from, to, name, rest) = read_edge(number, first, tokens)?;
     read_named(alloc, from, to, name, rest)
 }
 
 /// The line from one event to another of this name and the tokens after it: a case, its other side, or a step by a rule.
-#[tactic(auto, unfolding(crate::specs::Internal::LineValues::named_said))]
+#[tactic(auto, unfolding(crate::specs::Internal::LineValues::named_said, tso_cert::specs::Internal::LineValues::reason_said))]
 fn read_named(
     alloc: Global,
     from: u64,
     to: u64,
     name: &[u8],
     tokens: Option<&[u8]>,
-) -> Result<RefutationLine, Why>
+) -> Result<RefutationLine, CertificateRefusal>
     ensures found { IfOk result (λ l. named_said from to name.now (tokens_after tokens.entry) ≡ Result.Ok l) }
-    ensures refused { IfErr result (λ why. why ≢ Why.OutOfMemory → named_said from to name.now (tokens_after tokens.entry) ≡ Result.Err why) }
-{
-    let Some(line) = tokens else {
-        return read_alone(from, to, name);
-    };
-    let (load, path) = next_token(line);
-    let reason = read_inferred(alloc, name, load, path)?;
-    Ok(RefutationLine::Step(CertStep { from, to, reason }))
-}
-
-/// The line from one event to another of this name, with no token after it.
-#[tactic(auto, unfolding(crate::specs::Internal::LineValues::named_said, tso_cert::specs::Internal::LineValues::reason_said))]
-fn read_alone(from: u64, to: u64, name: &[u8]) -> Result<RefutationLine, Why>
-    ensures { result ≡ named_said from to name.now [] }
+    ensures refused { IfErr result (λ why. why ≢ CertificateRefusal.OutOfMemory → named_said from to name.now (tokens_after tokens.entry) ≡ Result.Err why) }
 {
     let (first, second) = (from, to);
-    if name == b"Case".as_slice() {
-        Ok(RefutationLine::Case { first, second })
-    } else if name == b"Else".as_slice() {
-        Ok(RefutationLine::Else { first, second })
-    } else {
-        let reason = Reason::Base(base_rule(name)?);
-        Ok(RefutationLine::Step(CertStep { from, to, reason }))
+    match tokens {
+        None if name == b"Case".as_slice() => Ok(RefutationLine::Case { first, second }),
+        None if name == b"Else".as_slice() => Ok(RefutationLine::Else { first, second }),
+        None => {
+            let reason = Reason::Base(base_rule(name)?);
+            Ok(RefutationLine::Step(CertStep { from, to, reason }))
+        }
+        Some(_) => {
+            let reason = read_reason(alloc, name, tokens)?;
+            Ok(RefutationLine::Step(CertStep { from, to, reason }))
+        }
     }
 }

@@ -1,6 +1,5 @@
 -- What inferred rules give over a relation that stands for the paths, and what a round adds.
 use Rattle.std.proofs.Common.{ℕ, suc, ◌<◌}
-use Rattle.order_paths.specs.Paths.{Reaches}
 use Rattle.order_paths.proofs.Reach.{Reaches-mono}
 use Rattle.tso_ops.specs.Values.{TraceValue}
 use Rattle.tso_ops.specs.Events.{event_total}

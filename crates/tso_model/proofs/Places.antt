@@ -1,5 +1,5 @@
--- Places in an order: two numbers at one place are one if either is listed.
-use Rattle.std.proofs.Common.{◌≡◌, ◌⊎◌, ℕ, zero, suc, ◌<◌, true, false, List, [], ◌∷◌, arith, eqb, ⊎_elim, inl, inr, ◌≢◌}
+-- Places in an order, and how often numbers stand in it: two numbers at one place are one if either is listed.
+use Rattle.std.proofs.Common.{◌≡◌, ◌∙◌, ◌⊎◌, sym, ap, ℕ, zero, suc, ◌+◌, ◌<◌, Bool, true, false, cond, List, [], ◌∷◌, ◌++◌, length, arith, eqb, ⊎_elim, inl, inr, ◌≢◌}
 use Rattle.std.proofs.lemmas.Bool.{cases_eq, cases_lt, eq-eqb, ne_eqb}
 use Rattle.tso_model.specs.Axioms.{occurrences, place, IsUpTo, IsBefore}
 
@@ -14,6 +14,42 @@ place-later x rest n other = let test : eqb x n ≡ false = ne_eqb x n other in 
 -- a number other than the first occurs as often in the rest
 pub occurrences-later : (n x : ℕ) (rest : List ℕ) → (x ≡ n → ⊥) → occurrences n (x ∷ rest) ≡ occurrences n rest
 occurrences-later n x rest other = let test : eqb x n ≡ false = ne_eqb x n other in rw test
+
+-- a test adds one or none
+test-sum : (b : Bool) (k : ℕ) → cond b (suc k) k ≡ cond b 1 0 + k
+test-sum true k = omega arith
+test-sum false k = omega arith
+
+pub occurrences-cons : (n x : ℕ) (rest : List ℕ) → occurrences n (x ∷ rest) ≡ occurrences n (x ∷ []) + occurrences n rest
+occurrences-cons n x rest = test-sum (eqb x n) (occurrences n rest)
+
+pub occurrences-same : (n x : ℕ) → x ≡ n → occurrences n (x ∷ []) ≡ 1
+occurrences-same n x same = let test : eqb x n ≡ true = eq-eqb x n same in rw test
+
+pub occurrences-other : (n x : ℕ) → (x ≡ n → ⊥) → occurrences n (x ∷ []) ≡ 0
+occurrences-other n x other = occurrences-later n x [] other
+
+pub occurrences-append : (n : ℕ) (xs ys : List ℕ) → occurrences n (xs ++ ys) ≡ occurrences n xs + occurrences n ys
+occurrences-append n [] ys = omega arith
+occurrences-append n (x ∷ xs) ys = omega (arith, occurrences-cons n x (xs ++ ys), occurrences-cons n x xs, occurrences-append n xs ys)
+
+-- a number that is listed has the same place with more numbers after it
+pub place-listed : (n : ℕ) (xs ys : List ℕ) → 0 < occurrences n xs → (place (xs ++ ys) n ≡ place xs n) × (place xs n < length xs)
+place-listed n [] ys listed = absurd (omega arith)
+place-listed n (x ∷ xs) ys listed = elim (cases_eq x n) [
+  | inl same ↦ (place-here x (xs ++ ys) n same ∙ sym (place-here x xs n same), omega (arith, place-here x xs n same))
+  | inr other ↦
+      let rest = place-listed n xs ys (omega (arith, listed, occurrences-later n x xs other)) in
+      (place-later x (xs ++ ys) n other ∙ ap suc rest.0 ∙ sym (place-later x xs n other), omega (arith, rest.1, place-later x xs n other))
+]
+
+-- the place of a number that isn't listed before
+pub place-past : (n : ℕ) (xs ys : List ℕ) → occurrences n xs ≡ 0 → place (xs ++ ys) n ≡ length xs + place ys n
+place-past n [] ys none = omega arith
+place-past n (x ∷ xs) ys none = elim (cases_eq x n) [
+  | inl same ↦ absurd (omega (arith, none, occurrences-cons n x xs, occurrences-same n x same))
+  | inr other ↦ omega (arith, place-later x (xs ++ ys) n other, place-past n xs ys (omega (arith, none, occurrences-later n x xs other)))
+]
 
 -- equal places, of which one is a listed number's, are one number's
 pub place_same : (order : List ℕ) (u v : ℕ) → 0 < occurrences v order → place order u ≡ place order v → u ≡ v

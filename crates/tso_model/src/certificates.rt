@@ -31,7 +31,8 @@ pub fn certificate_has_cause()
 
 /// The certificate of a trace names an unwritten load exactly if the trace has one, and else has a cycle.
 pub fn certificate_has_right_form()
-    ensures { (t : TraceValue) (certificate : Certificate) → IsCertificateOf t certificate → ((l : ℕ) × IsUnwritten t l) ↔ ((n : ℕ) × (certificate ≡ Unwritten n)) }
+    ensures { (t : TraceValue) (certificate : Certificate) → IsCertificateOf t certificate → ((l : ℕ) × IsUnwritten t l) ↔
+        ((n : ℕ) × (certificate ≡ Unwritten n)) }
 {}
 
 /// A trace that has an unwritten load or a derived cycle has a certificate.

@@ -40,7 +40,8 @@ pub(crate) fn check_lists<T: Operation>(
 
 /// Admits the operations of one processor.
 fn admit_list<T: Operation>(tally: &mut Tally, list: &[T]) -> Result<(), ValueFault>
-    ensures admitted { (setting : SettingValue) (ops : List Op) → Admitted setting tally.old ops → OnOk result (Admitted setting tally.new (ops ++ map T.op list.now)) }
+    ensures admitted { (setting : SettingValue) (ops : List Op) → Admitted setting tally.old ops →
+        OnOk result (Admitted setting tally.new (ops ++ map T.op list.now)) }
     ensures fits { OnOk result (All T.fits list.now) }
     ensures refused { (setting : SettingValue) (ops : List Op) → Admitted setting tally.old ops →
         IfErr result (λ why. why ≢ ValueFault.OutOfMemory → IsFaultOf (has_fault setting) (ops ++ map T.op list.now) why) }

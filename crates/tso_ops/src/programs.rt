@@ -56,7 +56,8 @@ impl Program {
     ) -> Result<Program, Refused<Op>>
         ensures made { IfOk result (λ p. p ≡ program_of_lists (setting_of_order order) (rows lists.items)) }
         ensures accepted { OnOk result ((why : ValueFault) → IsValueRefusal (program_of_lists (setting_of_order order) (rows lists.items)) why → ⊥) }
-        ensures refused { IfErr result (λ r. r.why ≢ ValueFault.OutOfMemory → IsValueRefusal (program_of_lists (setting_of_order order) (rows lists.items)) r.why) }
+        ensures refused { IfErr result (λ r. r.why ≢ ValueFault.OutOfMemory →
+            IsValueRefusal (program_of_lists (setting_of_order order) (rows lists.items)) r.why) }
         ensures handed_back { IfErr result (λ r. r.lists ≡ lists) }
     {
         match check_program(alloc, Setting::of_order(alloc, order), lists) {
@@ -82,8 +83,10 @@ impl Program {
         lists: Vec<Vec<Op>>,
     ) -> Result<Program, RefusedFirst<Op>>
         ensures made { IfOk result (λ p. p ≡ program_of_lists (setting_of_first order first.items) (rows lists.items)) }
-        ensures accepted { OnOk result ((why : ValueFault) → IsValueRefusal (program_of_lists (setting_of_first order first.items) (rows lists.items)) why → ⊥) }
-        ensures refused { IfErr result (λ r. r.why ≢ ValueFault.OutOfMemory → IsValueRefusal (program_of_lists (setting_of_first order first.items) (rows lists.items)) r.why) }
+        ensures accepted { OnOk result ((why : ValueFault) →
+            IsValueRefusal (program_of_lists (setting_of_first order first.items) (rows lists.items)) why → ⊥) }
+        ensures refused { IfErr result (λ r. r.why ≢ ValueFault.OutOfMemory →
+            IsValueRefusal (program_of_lists (setting_of_first order first.items) (rows lists.items)) r.why) }
         ensures handed_back { IfErr result (λ r. r.lists ≡ lists) }
         ensures first_handed_back { IfErr result (λ r. r.first ≡ first) }
     {

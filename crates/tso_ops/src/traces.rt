@@ -50,7 +50,8 @@ impl Trace {
     pub fn new(alloc: Global, lists: Vec<Vec<Outcome>>) -> Result<Trace, Refused<Outcome>>
         ensures made { IfOk result (λ t. t ≡ trace_of_lists version_one_tso (rows lists.items)) }
         ensures accepted { OnOk result ((why : ValueFault) → IsValueRefusal (program_of (trace_of_lists version_one_tso (rows lists.items))) why → ⊥) }
-        ensures refused { IfErr result (λ r. r.why ≢ ValueFault.OutOfMemory → IsValueRefusal (program_of (trace_of_lists version_one_tso (rows lists.items))) r.why) }
+        ensures refused { IfErr result (λ r. r.why ≢ ValueFault.OutOfMemory →
+            IsValueRefusal (program_of (trace_of_lists version_one_tso (rows lists.items))) r.why) }
         ensures handed_back { IfErr result (λ r. r.lists ≡ lists) }
     {
         Trace::with_order(alloc, Order::Tso, lists)
@@ -68,7 +69,8 @@ impl Trace {
     ) -> Result<Trace, Refused<Outcome>>
         ensures made { IfOk result (λ t. t ≡ trace_of_lists (setting_of_order order) (rows lists.items)) }
         ensures accepted { OnOk result ((why : ValueFault) → IsValueRefusal (program_of (trace_of_lists (setting_of_order order) (rows lists.items))) why → ⊥) }
-        ensures refused { IfErr result (λ r. r.why ≢ ValueFault.OutOfMemory → IsValueRefusal (program_of (trace_of_lists (setting_of_order order) (rows lists.items))) r.why) }
+        ensures refused { IfErr result (λ r. r.why ≢ ValueFault.OutOfMemory →
+            IsValueRefusal (program_of (trace_of_lists (setting_of_order order) (rows lists.items))) r.why) }
         ensures handed_back { IfErr result (λ r. r.lists ≡ lists) }
     {
         match check_trace(alloc, Setting::of_order(alloc, order), lists) {
@@ -94,8 +96,10 @@ impl Trace {
         lists: Vec<Vec<Outcome>>,
     ) -> Result<Trace, RefusedFirst<Outcome>>
         ensures made { IfOk result (λ t. t ≡ trace_of_lists (setting_of_first order first.items) (rows lists.items)) }
-        ensures accepted { OnOk result ((why : ValueFault) → IsValueRefusal (program_of (trace_of_lists (setting_of_first order first.items) (rows lists.items))) why → ⊥) }
-        ensures refused { IfErr result (λ r. r.why ≢ ValueFault.OutOfMemory → IsValueRefusal (program_of (trace_of_lists (setting_of_first order first.items) (rows lists.items))) r.why) }
+        ensures accepted { OnOk result ((why : ValueFault) →
+            IsValueRefusal (program_of (trace_of_lists (setting_of_first order first.items) (rows lists.items))) why → ⊥) }
+        ensures refused { IfErr result (λ r. r.why ≢ ValueFault.OutOfMemory →
+            IsValueRefusal (program_of (trace_of_lists (setting_of_first order first.items) (rows lists.items))) r.why) }
         ensures handed_back { IfErr result (λ r. r.lists ≡ lists) }
         ensures first_handed_back { IfErr result (λ r. r.first ≡ first) }
     {
@@ -286,7 +290,8 @@ fn check_trace(
     requires { setting.version ≡ One → setting.first.items ≡ [] }
     ensures made { IfOk result (λ t. t ≡ trace_of_lists (setting_of setting) (rows lists.items)) }
     ensures accepted { OnOk result ((why : ValueFault) → IsValueRefusal (program_of (trace_of_lists (setting_of setting) (rows lists.items))) why → ⊥) }
-    ensures refused { IfErr result (λ r. r.why ≢ ValueFault.OutOfMemory → IsValueRefusal (program_of (trace_of_lists (setting_of setting) (rows lists.items))) r.why) }
+    ensures refused { IfErr result (λ r. r.why ≢ ValueFault.OutOfMemory →
+        IsValueRefusal (program_of (trace_of_lists (setting_of setting) (rows lists.items))) r.why) }
     ensures handed_back { IfErr result (λ r. r.lists ≡ lists) }
     ensures first_handed_back { IfErr result (λ r. r.first ≡ setting.first) }
 {

@@ -1,5 +1,6 @@
 -- Lemmas on campaigns: results as they come in, and the lines of seeds.
-use Rattle.std.proofs.Common.{◌≡◌, ◌⊎◌, ℕ, suc, ◌+◌, ◌<◌, ◌≤◌, ◌^◌, inl, inr, Bool, true, false, ◌&&◌, List, [], ◌∷◌, ◌++◌, length, map, take, set, get_or, replicate, Option, None, Some, unwrap_or, is_some, true≢false, refl, ap, ap₂, sym, subst, ◌∙◌, Ok, Err, Result, IfOk, arith, append_assoc, codes, length-set}
+use Rattle.std.proofs.Common.{◌≡◌, ◌↔◌, ℕ, suc, ◌+◌, ◌<◌, ◌≤◌, ◌^◌, inl, inr, Bool, true, false, ◌&&◌, List, [], ◌∷◌, ◌++◌, length, map, take, set, get_or, replicate, Option, None, Some, unwrap_or, is_some, true≢false, refl, ap, ap₂, sym, subst, ◌∙◌, Ok, Err, Result, IfOk, arith, append_assoc, codes, length-set}
+use Rattle.std.specs.Prelude.{IsTrue}
 use Rattle.std.specs.Fmt.{decimal}
 use Rattle.std.specs.List.{concat, list_any}
 use Rattle.std.proofs.lemmas.Bool.{cases_eq}
@@ -8,7 +9,7 @@ use Rattle.std.proofs.lemmas.List.Folds.{concat-append}
 use Rattle.std.proofs.lemmas.List.{append-nil, length-take-le, take_more, get_or-map, get_or-replicate, get_or-set_other, get_or-set_same, length-map, length-replicate}
 use Rattle.drawn_programs.specs.Making as Making
 use Rattle.drawn_programs.specs.Making.{ShapeValue}
-use Rattle.tso_ops.specs.Values.{ProgramValue, TraceValue, rows}
+use Rattle.tso_ops.specs.Values.{ProgramValue, rows}
 use Rattle.tso_model.specs.Axioms.{IsConsistent}
 use Rattle.tso_ops.specs.declared.settings.Order.{Order}
 use Rattle.unit_core.specs.Records.{IsRecorded, RecordedValue, is_within}
@@ -22,13 +23,10 @@ use Rattle.request_options.specs.declared.campaigns.CampaignPrinting.{CampaignPr
 use Rattle.request_options.specs.declared.campaigns.CampaignPrinting.TheVariants.{Lines, Traces}
 use Rattle.request_options.specs.declared.campaigns.Execution.{Execution}
 use Rattle.request_options.specs.declared.campaigns.Execution.TheVariants.{Threads, Replay}
-use Rattle.trace_reports.specs.declared.verdicts.Verdict.{Verdict}
-use Rattle.trace_reports.specs.declared.verdicts.Verdict.TheVariants.{NoViolation, Violation, Refused}
-use Rattle.tso_report.specs.Campaigns.{AreResultsFrom, IsCampaign, IsRecordOfReplay, IsRecordOfSeed, IsResultOfSeed, SeedResult, campaign_program, campaign_text, is_lawful_under, program_of_seed_with_order, seed_line, seed_lines, total_line, verdict_of, violations_of}
+use Rattle.tso_report.specs.Campaigns.{AreResultsFrom, IsCampaign, IsRecordOfReplay, IsRecordOfSeed, IsResultOfSeed, SeedResult, campaign_program, campaign_text, campaign_total_line, is_lawful_under, program_of_seed_with_order, seed_line, seed_lines, verdict_on, violations_of}
 use Rattle.tso_report.specs.Internal.Gathering.{AreKept, AreKnown, AreUnitsFrom, GatheredValue, IsGathered, IsKept, IsKnown, KeepsSeeds, no_unit, text_by}
-use Rattle.trace_reports.specs.Reports.{IsTraceReport}
-use Rattle.trace_reports.specs.Verdicts.{is_violation, verdict_line}
-use Rattle.trace_reports.proofs.RenderingFacts.{consistent_verdict, trace_verdict}
+use Rattle.trace_reports.specs.Verdicts.{verdict_line}
+use Rattle.trace_reports.specs.Violations.{IsViolation}
 use Rattle.tso_report.proofs.LawfulRecords.{lawful_consistent}
 
 -- the lines of one more seed
@@ -170,16 +168,16 @@ known_count plan units violations texts known = ap length known.are_violations �
 -- what is printed by what is known is the text of the campaign
 printed_by : (printing : CampaignPrinting) (first : ℕ) (violations : List Bool) (texts : List (List ℕ)) (results : List SeedResult) → violations ≡ violations_of results → AreKept printing texts results →
     text_by printing first violations texts ≡ campaign_text printing first results
-printed_by Lines first violations texts results are kept = ap (λ vs. seed_lines first vs ++ total_line vs) are
+printed_by Lines first violations texts results are kept = ap (λ vs. seed_lines first vs ++ campaign_total_line vs) are
 printed_by Traces first violations texts results are kept = ap concat kept
 
 pub campaign_by : (plan : CampaignPlan) (units : List UnitValue) (violations : List Bool) (texts : List (List ℕ)) → AreKnown plan units violations texts →
-    IsCampaign plan units (text_by plan.printing plan.first violations texts) (verdict_of (list_any (λ violation. violation) violations))
+    IsCampaign plan units (text_by plan.printing plan.first violations texts) (verdict_on (list_any (λ violation. violation) violations))
 campaign_by plan units violations texts known = record {
   results = known.results;
   are_results = known.are_results;
   whole = printed_by plan.printing plan.first violations texts known.results known.are_violations known.are_kept;
-  says = ap (λ vs. verdict_of (list_any (λ violation. violation) vs)) known.are_violations;
+  says = ap (λ vs. verdict_on (list_any (λ violation. violation) vs)) known.are_violations;
 }
 
 -- the texts of one more trace
@@ -194,15 +192,10 @@ joined_more texts i text old new inside is before added =
 
 -- ---- a seed
 
--- the verdict on a trace, as a violation or not
-says_violation : (v : Verdict) → (v ≡ Violation) ⊎ (v ≡ NoViolation) → v ≡ verdict_of (is_violation v)
-says_violation NoViolation either = refl
-says_violation Violation either = refl
-says_violation Refused (inl e) = e ∙ ap (λ v. verdict_of (is_violation v)) (sym e)
-says_violation Refused (inr e) = e ∙ ap (λ v. verdict_of (is_violation v)) (sym e)
-
-report_says : (t : TraceValue) (text : List ℕ) (v : Verdict) → IsTraceReport t text v → IsTraceReport t text (verdict_of (is_violation v))
-report_says t text v report = subst (IsTraceReport t text) (says_violation v (trace_verdict t text v report)) report
+-- what isn't so is false
+not_so : (is : Bool) → (IsTrue is → ⊥) → is ≡ false
+not_so true none = absurd (none refl)
+not_so false none = refl
 
 -- the programs of seeds are of their memory model
 of_order : (order : Order) (shape : ShapeValue) (seed : ℕ) → (program_of_seed_with_order order shape seed).setting.order ≡ order
@@ -222,27 +215,26 @@ record_lawful (Threads turns) plan seed unit r run = run.lawful
 record_lawful Replay plan seed unit r run =
     run.1.recorded.lawful ∙ ap₂ (λ lawful order. lawful && is_within order (campaign_program plan seed).setting.order) run.1.lawful run.1.order
 
--- the record's trace and the verdict of its report are a result of the seed
-result_of_seed : (plan : CampaignPlan) (seed : ℕ) (unit : UnitValue) (r : RecordedValue) (text : List ℕ) (v : Verdict) → IsRecorded r → IsRecordOfSeed plan.execution plan seed unit r →
-    IsTraceReport r.trace text v → (v ≡ Violation → IsConsistent r.trace → ⊥) → IsResultOfSeed plan seed unit (record { trace = r.trace; violation = is_violation v })
-result_of_seed plan seed unit r text v kept executed report no_order = record {
+-- the record's trace, and whether it is a violation, are a result of the seed
+result_of_seed : (plan : CampaignPlan) (seed : ℕ) (unit : UnitValue) (r : RecordedValue) (violation : Bool) → IsRecorded r → IsRecordOfSeed plan.execution plan seed unit r →
+    IsTrue violation ↔ IsViolation r.trace → (IsTrue violation → IsConsistent r.trace → ⊥) → IsResultOfSeed plan seed unit (record { trace = r.trace; violation = violation })
+result_of_seed plan seed unit r violation kept executed says no_order = record {
   recorded = r;
   executed = executed;
   of_record = refl;
-  text = text;
-  report = report_says r.trace text v report;
+  says = says;
   no_false_alarm = λ lawful.
       let is : r.lawful ≡ true =
       record_lawful plan.execution plan seed unit r executed ∙ ap (λ order. is_lawful_under order unit) (of_order plan.order plan.shape seed) ∙ lawful in
-      ap is_violation (consistent_verdict r.trace text v report no_order (lawful_consistent r kept is));
+      not_so violation (λ accused. no_order accused (lawful_consistent r kept is));
 }
 
 -- what a judged record lets know of its seed
-pub known_of_seed : (plan : CampaignPlan) (seed : ℕ) (unit : UnitValue) (r : RecordedValue) (report_text : List ℕ) (v : Verdict) (text : List ℕ) → IsRecorded r →
-    IsRecordOfSeed plan.execution plan seed unit r → IsTraceReport r.trace report_text v → (v ≡ Violation → IsConsistent r.trace → ⊥) → IsKept plan.printing text r.trace →
-    IsKnown plan seed unit (is_violation v) text
-known_of_seed plan seed unit r report_text v text kept executed report no_order is = record {
+pub known_of_seed : (plan : CampaignPlan) (seed : ℕ) (unit : UnitValue) (r : RecordedValue) (violation : Bool) (text : List ℕ) → IsRecorded r →
+    IsRecordOfSeed plan.execution plan seed unit r → IsTrue violation ↔ IsViolation r.trace → (IsTrue violation → IsConsistent r.trace → ⊥) → IsKept plan.printing text r.trace →
+    IsKnown plan seed unit violation text
+known_of_seed plan seed unit r violation text kept executed says no_order is = record {
   trace = r.trace;
-  is_result = result_of_seed plan seed unit r report_text v kept executed report no_order;
+  is_result = result_of_seed plan seed unit r violation kept executed says no_order;
   is_kept = is;
 }

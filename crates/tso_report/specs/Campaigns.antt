@@ -1,5 +1,5 @@
 -- Campaigns: the program and the schedule that a seed draws, what is said of a seed, and the text of a campaign.
-use Rattle.std.specs.Prelude.{◌≡◌, ℕ, suc, ◌+◌, ◌<◌, ◌≤◌, Bool, true, false, ◌&&◌, List, [], ◌∷◌, ◌++◌, length, codes, map, Ok, Option}
+use Rattle.std.specs.Prelude.{◌≡◌, ◌↔◌, ℕ, suc, ◌+◌, ◌<◌, ◌≤◌, Bool, IsTrue, true, false, ◌&&◌, List, [], ◌∷◌, ◌++◌, length, codes, map, Ok, Option}
 use Rattle.std.specs.List.{concat, count_by, list_any}
 use Rattle.std.specs.Fmt.{decimal}
 use Rattle.std.specs.Io.KnownBytes.{Keeps}
@@ -28,8 +28,8 @@ use Rattle.text_streams.specs.declared.faults.Fault.{Fault}
 use Rattle.text_streams.specs.declared.faults.Fault.TheVariants.{Read, Missing}
 use Rattle.trace_reports.specs.declared.verdicts.Verdict.{Verdict}
 use Rattle.trace_reports.specs.declared.verdicts.Verdict.TheVariants.{NoViolation, Violation}
-use Rattle.trace_reports.specs.Reports.{IsTraceReport}
 use Rattle.trace_reports.specs.Verdicts.{verdict_line}
+use Rattle.trace_reports.specs.Violations.{IsViolation}
 use Rattle.text_streams.specs.WrittenTexts.{LeavesAtFault}
 
 -- ---- the program and the schedule of a seed
@@ -57,9 +57,9 @@ campaign_program plan seed = program_of_seed_with_order plan.order plan.shape se
 -- ---- what is said of a seed
 
 -- the verdict on a trace, which is a violation or not
-abbrev pub verdict_of : Bool → Verdict
-verdict_of true = Violation
-verdict_of false = NoViolation
+abbrev pub verdict_on : Bool → Verdict
+verdict_on true = Violation
+verdict_on false = NoViolation
 
 -- whether a unit is lawful for programs of the memory model
 abbrev pub is_lawful_under : Order → UnitValue → Bool
@@ -79,14 +79,13 @@ pub record SeedResult : Type 0 where
   pub trace : TraceValue
   pub violation : Bool
 
--- The trace is that of a record of the seed's program on this unit, executed as the plan says. The verdict is that of the trace's report, and no violation
+-- The trace is that of a record of the seed's program on this unit, executed as the plan says. It is told whether the trace is a violation, which it isn't
 -- where the unit is lawful for programs of the plan's memory model.
 pub record IsResultOfSeed (plan : CampaignPlan) (seed : ℕ) (unit : UnitValue) (result : SeedResult) : Type 0 where
   pub recorded : RecordedValue
   pub executed : IsRecordOfSeed plan.execution plan seed unit recorded
   pub of_record : result.trace ≡ recorded.trace
-  pub text : List ℕ
-  pub report : IsTraceReport result.trace text (verdict_of result.violation)
+  pub says : IsTrue result.violation ↔ IsViolation result.trace
   pub no_false_alarm : is_lawful_under plan.order unit ≡ true → result.violation ≡ false
 
 -- these are the results of the seeds from this one on, a seed for each unit
@@ -112,24 +111,24 @@ seed_lines seed [] = []
 seed_lines seed (violation ∷ violations) = seed_line seed violation ++ seed_lines (suc seed) violations
 
 -- the last line: how many seeds, and how many of them are violations
-abbrev pub total_line : List Bool → List ℕ
-total_line violations = codes "seeds " ++ decimal (length violations) ++ codes " violations " ++ decimal (count_by (λ violation. violation) violations) ++ 10 ∷ []
+abbrev pub campaign_total_line : List Bool → List ℕ
+campaign_total_line violations = codes "seeds " ++ decimal (length violations) ++ codes " violations " ++ decimal (count_by (λ violation. violation) violations) ++ 10 ∷ []
 
 -- the recorded traces, one after the other
-abbrev pub traces_text : List SeedResult → List ℕ
-traces_text results = concat (map (λ result. trace_text result.trace) results)
+abbrev pub recorded_traces_text : List SeedResult → List ℕ
+recorded_traces_text results = concat (map (λ result. trace_text result.trace) results)
 
 -- what is printed of the results of the seeds from the first on: a line for each and the last line, or the traces
 abbrev pub campaign_text : CampaignPrinting → ℕ → List SeedResult → List ℕ
-campaign_text Lines first results = seed_lines first (violations_of results) ++ total_line (violations_of results)
-campaign_text Traces first results = traces_text results
+campaign_text Lines first results = seed_lines first (violations_of results) ++ campaign_total_line (violations_of results)
+campaign_text Traces first results = recorded_traces_text results
 
 -- The text is what the plan has printed of a campaign over these units. The verdict is Violation where a result is one, else NoViolation.
 pub record IsCampaign (plan : CampaignPlan) (units : List UnitValue) (text : List ℕ) (verdict : Verdict) : Type 0 where
   pub results : List SeedResult
   pub are_results : AreResultsFrom plan plan.first units results
   pub whole : text ≡ campaign_text plan.printing plan.first results
-  pub says : verdict ≡ verdict_of (list_any (λ violation. violation) (violations_of results))
+  pub says : verdict ≡ verdict_on (list_any (λ violation. violation) (violations_of results))
 
 -- What a fault leaves of such a text on so many seeds from the first on: on Write a prefix of the text, else nothing was written. A missing seed is one of
 -- these. Nothing is read.

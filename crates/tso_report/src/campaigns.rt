@@ -2,7 +2,7 @@
 ghost use Rattle.std.specs.Prelude.{◌≡◌, ◌≤◌, ◌+◌, ◌^◌, [], All, Decides, IfOk, IfErr, length, map};
 ghost use Rattle.std.specs.List.{list_any};
 ghost use Rattle.trace_judging.specs.Limits.{worker_limit};
-ghost use Rattle.tso_report.specs.Campaigns.{IsCampaign, LeavesCampaign, verdict_of};
+ghost use Rattle.tso_report.specs.Campaigns.{IsCampaign, LeavesCampaign, verdict_on};
 ghost use Rattle.tso_report.specs.Internal.Gathering.{AreUnitsFrom};
 ghost use Rattle.tso_report.specs.Limits.{seed_count_limit};
 ghost use Rattle.text_streams.specs.WrittenTexts.{WritesWhole};
@@ -171,7 +171,7 @@ fn says_violation(violations: &[bool]) -> bool
 
 /// The verdict on a trace, which is a violation or not.
 fn verdict_of(violation: bool) -> Verdict
-    ensures { result ≡ verdict_of violation }
+    ensures { result ≡ verdict_on violation }
 {
     if violation {
         Verdict::Violation

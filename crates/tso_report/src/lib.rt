@@ -12,11 +12,11 @@ pub use campaigns::{CampaignPlan, MAX_SEEDS, campaign, campaign_over};
 pub use record_judging::{judge_recorded, report_of_record};
 pub use text_streams::{Fault, read_all, write_text};
 pub use trace_judging::{
-    MAX_CERTIFICATE_BYTES, MAX_WORKERS, build_cert, check_texts, find_violation, judge, judge_text,
-    judge_trace, judge_with,
+    ByRules, MAX_CERTIFICATE_BYTES, MAX_WORKERS, Question, answer_reader, answer_trace, build_cert,
+    check_texts, judge,
 };
 pub use trace_reports::{
-    AsReport, Finding, Rendering, Report, Verdict, render, render_head, render_refusal,
+    AsReport, Finding, Rendering, Report, Verdict, render_head, render_refusal,
 };
 
 mod account_rendering;

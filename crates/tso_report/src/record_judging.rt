@@ -14,7 +14,7 @@ use std::io::Write;
 use std::sync::Wait;
 use std::thread::Threads;
 use text_streams::{Fault, write_text};
-use trace_judging::judge_trace;
+use trace_judging::{ByRules, answer_trace};
 use trace_reports::{AsReport, Report, Verdict};
 use unit_core::Recorded;
 
@@ -57,7 +57,7 @@ pub fn report_of_record<H: Threads + Wait>(
     alloc: Global,
     recorded: &Recorded,
     workers: usize,
-) -> Result<Report, Fault>
+) -> Result<Report<Verdict>, Fault>
     requires some { 1 ≤ workers }
     requires most { workers ≤ worker_limit }
     ensures report { IfOk result (λ report. IsTraceReport recorded.now.trace (string_bytes report.text) report.verdict) }
@@ -65,6 +65,7 @@ pub fn report_of_record<H: Threads + Wait>(
     ensures no_false_alarm { IfOk result (λ report. recorded.now.lawful ≡ true → report.verdict ≡ Verdict.NoViolation) }
     ensures fault { IfErr result (λ fault. (fault ≡ Fault.OutOfMemory) ⊎ (fault ≡ Fault.NoThread)) }
 {
-    let report = judge_trace(rt, alloc, recorded.trace(), workers, &AsReport)?;
+    let question = ByRules { workers };
+    let report = answer_trace(rt, alloc, recorded.trace(), &question, &AsReport)?;
     Ok(report)
 }

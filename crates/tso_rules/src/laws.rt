@@ -14,9 +14,11 @@ ghost use Rattle.tso_rules.specs.Rows.{IsJustifiedOver};
 /// Over a graph that has the edges of a rank set, the rows of new edges are those that the next rank set has and this one
 /// lacks, and a justification of an edge of the next rank is the one that its certificate cites.
 pub fn rank_sets()
-    ensures rows { (t : TraceValue) (k u : ℕ) (g : Digraph) (row : List ℕ) → ((x y : ℕ) → IsEdge g x y ↔ RankSet t k x y) → IsListOf row (IsNew t (IsEdge g) u) →
+    ensures rows { (t : TraceValue) (k u : ℕ) (g : Digraph) (row : List ℕ) → ((x y : ℕ) → IsEdge g x y ↔ RankSet t k x y) →
+        IsListOf row (IsNew t (IsEdge g) u) →
         IsListOf row (λ v. RankSet t (suc k) u v × (RankSet t k u v → ⊥)) }
-    ensures base { (t : TraceValue) (u v : ℕ) (g : Digraph) (reason : Reason) → RankSet t 0 u v → IsJustifiedOver t (IsEdge g) u v reason → IsJustified t 0 u v reason }
+    ensures base { (t : TraceValue) (u v : ℕ) (g : Digraph) (reason : Reason) → RankSet t 0 u v → IsJustifiedOver t (IsEdge g) u v reason →
+        IsJustified t 0 u v reason }
     ensures next { (t : TraceValue) (k u v : ℕ) (g : Digraph) (reason : Reason) → ((x y : ℕ) → IsEdge g x y ↔ RankSet t k x y) → HasRank t u v (suc k) →
         IsJustifiedOver t (IsEdge g) u v reason → IsJustified t (suc k) u v reason }
 {}

@@ -180,7 +180,8 @@ fn first_given<G: PathSearch>(
     u: usize,
     v: usize,
 ) -> Result<Option<Given>, OutOfMemory>
-    ensures { IfOk result (λ found. MatchOption found ((rule : InferredRule) (l : ℕ) → IsGivenBy trace.now rule l (Reaches (IsEdge (G.digraph graph.now))) u v → ⊥)
+    ensures { IfOk result (λ found. MatchOption found ((rule : InferredRule) (l : ℕ) →
+        IsGivenBy trace.now rule l (Reaches (IsEdge (G.digraph graph.now))) u v → ⊥)
         (λ g. GivesBy trace.now (IsEdge (G.digraph graph.now)) u v g.rule g.load g.from g.to × IsFirstGiven trace.now (IsEdge (G.digraph graph.now)) u v g.rule g.load)) }
 {
     if let Some(given) = least_given(trace, graph, InferredRule::LoadPast, u, v)? {

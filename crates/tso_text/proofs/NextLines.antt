@@ -23,7 +23,7 @@ use Rattle.tso_ops.specs.Settings.{SettingValue}
 use Rattle.tso_text.specs.declared.lines.Line.{Line}
 use Rattle.tso_text.specs.declared.lines.Line.TheVariants.{End}
 use Rattle.tso_text.specs.Internal.LineReadings.{has_stbar, model_said, entry_by, line_fault_after, fault_in_lists, fault_of, has_entries, entry_fault_after}
-use Rattle.tso_text.specs.Lines.{model_lines, whole_lines}
+use Rattle.tso_text.specs.Lines.{model_line_in, whole_lines}
 use Rattle.tso_text.specs.Printed.{header_of, items_text, processor_text, setting_text, model_text, entry_tokens}
 use Rattle.tso_text.specs.Texts.{text_byte_limit}
 use Rattle.tso_text.specs.Internal.Begun.{IsSetting, HasBegun, HasHeader, IsBodyRefusal, IsPreambleRefusal}
@@ -276,7 +276,7 @@ module _ {X : Type 0} (f : Format X) (one two : List ℕ) (p : X → List (List 
   in_model version text rest word others why l short whole cut word_model fault =
       let xs = header_of one two version ++ 10 ∷ [] in
       let header : HasHeader one two text version rest = subst (λ t. HasHeader one two t version rest) (sym (whole ∙ append_assoc (header_of one two version) (10 ∷ []) rest)) (header_back one two version rest headers) in
-      let is : model_lines (whole_lines (parts_of rest)) ≡ l.line ∷ [] = rw (l.parts, whole_lines-parts l.line l.rest, keyword_is (codes "model") l.line word others cut, word_model) refl in
+      let is : model_line_in (whole_lines (parts_of rest)) ≡ l.line ∷ [] = rw (l.parts, whole_lines-parts l.line l.rest, keyword_is (codes "model") l.line word others cut, word_model) refl in
       let first : model_fault l.line ≡ Some why = ap (λ ps. fault_of (model_said ps) (λ _. None)) (after_keyword-is l.line word others cut) ∙ fault in
       let line : length (parts_of xs) ≡ 2 = line_after xs rest (header.line ∷ []) (sym (ap parts_of whole) ∙ header.parts) in
       subst (λ n. IsTextRefusal f text n why) (sym line) (preamble_line text 2 why short (model_refusal one two text version rest l.line why header is first))

@@ -16,7 +16,7 @@ use Rattle.tso_ops.specs.Limits.{KeepsEntries}
 use Rattle.tso_ops.proofs.EntryFacts.{KeepsEntries-nil}
 use Rattle.tso_text.specs.declared.faults.Why.{Why}
 use Rattle.tso_text.specs.declared.faults.Why.TheVariants.{BadHeader, OutOfMemory}
-use Rattle.tso_text.specs.Lines.{begins_with, has_keyword, model_lines, whole_lines}
+use Rattle.tso_text.specs.Lines.{begins_with, has_keyword, model_line_in, whole_lines}
 use Rattle.tso_text.specs.Internal.LineReadings.{model_said, entry_by, entry_fault_after}
 use Rattle.tso_text.specs.Internal.Preambles.{header_fault, header_alone, after_keyword, model_fault, entry_lines, entry_said, said_entry_fault, with_said_entry, entries_after, entry_faults, version_of, setting_lines, preamble_by, setting_preamble}
 use Rattle.tso_text.specs.Internal.Begun.{AreFaultless, IsSetting, HasBegun, IsPreambleRefusal, HasHeader, HasNoHeader, HasModel, HasBadModel, HasEntries, HasAllEntries, HasBadEntry, IsEntryRefused}
@@ -184,7 +184,7 @@ pub header_clean : (one two text : List ℕ) (version : Version) (rest : List �
 header_clean one two text version rest h lines = rw h.is refl
 
 -- the lines after those of the memory model
-pub after_model : (text : List ℕ) (order : Order) (lines : ℕ) (rest : List ℕ) → (m : HasModel text order lines rest) → drop (length (model_lines (whole_lines (parts_of text)))) (whole_lines (parts_of text)) ≡ whole_lines (parts_of rest)
+pub after_model : (text : List ℕ) (order : Order) (lines : ℕ) (rest : List ℕ) → (m : HasModel text order lines rest) → drop (length (model_line_in (whole_lines (parts_of text)))) (whole_lines (parts_of text)) ≡ whole_lines (parts_of rest)
 after_model text order lines rest m =
     ap (λ ls. drop (length ls) (whole_lines (parts_of text))) m.is
     ∙ ap (λ ps. drop (length m.model) (whole_lines ps)) m.parts ∙ ap (drop (length m.model)) (whole_lines-append m.model rest) ∙ drop-append_seam m.model (whole_lines (parts_of rest))
@@ -257,10 +257,10 @@ lines_refused one two (line ∷ lines) none =
 pub header_refused : (one two text : List ℕ) → HasNoHeader one two text → IsPreambleRefusal (setting_preamble one two (whole_lines (parts_of text))) 1 BadHeader
 header_refused one two text none = lines_refused one two (whole_lines (parts_of text)) none
 
-pub model_refusal : (one two text : List ℕ) (version : Version) (after line : List ℕ) (why : Why) → HasHeader one two text version after → model_lines (whole_lines (parts_of after)) ≡ line ∷ [] → model_fault line ≡ Some why →
+pub model_refusal : (one two text : List ℕ) (version : Version) (after line : List ℕ) (why : Why) → HasHeader one two text version after → model_line_in (whole_lines (parts_of after)) ≡ line ∷ [] → model_fault line ≡ Some why →
     IsPreambleRefusal (setting_preamble one two (whole_lines (parts_of text))) 2 why
 model_refusal one two text version after line why header is first =
-    let entries = entry_faults [] (entry_lines (version_of two header.line) (drop (length (model_lines (whole_lines (parts_of after)))) (whole_lines (parts_of after)))) in
+    let entries = entry_faults [] (entry_lines (version_of two header.line) (drop (length (model_line_in (whole_lines (parts_of after)))) (whole_lines (parts_of after)))) in
     rw (preamble_after one two text version after header) record {
       before = header_fault (header_test one two) (header.line ∷ whole_lines (parts_of after)) ∷ [];
       after = entries;

@@ -10,7 +10,7 @@ use Rattle.line_text.specs.Lines.{tokens_of, line_text, parts_of}
 use Rattle.tso_text.specs.declared.faults.Why.{Why}
 use Rattle.tso_text.specs.Internal.LineReadings.{address, model_said, entry_by, entry_fault_after}
 use Rattle.tso_text.specs.Numbers.{numbers, number_at}
-use Rattle.tso_text.specs.Lines.{begins_with, has_keyword, model_lines, whole_lines}
+use Rattle.tso_text.specs.Lines.{begins_with, has_keyword, model_line_in, whole_lines}
 use Rattle.tso_text.specs.Internal.Preambles.{after_keyword, entry_said, said_entry_fault, SettingLines, entry_lines, header_fault, header_alone, preamble_by, setting_lines, setting_preamble}
 use Rattle.tso_text.specs.Printed.{entry_tokens, header_of, items_text, model_text, setting_text}
 use Rattle.tso_text.proofs.CanonicalFacts.{bind_ok, two_is, word_is, in_range, numbers_without, two-decimal, address-within}
@@ -255,7 +255,7 @@ no_entry_lines One lines is = refl
 no_entry_lines Two lines is = absurd cc
 
 -- a text of version 1 that has no line `model`
-pub setting_without_model : (one two rest : List ℕ) → AreHeaders one two → model_lines (whole_lines (parts_of rest)) ≡ [] → (setting_preamble one two (whole_lines (parts_of (one ++ 10 ∷ rest)))).setting ≡ version_one_tso
+pub setting_without_model : (one two rest : List ℕ) → AreHeaders one two → model_line_in (whole_lines (parts_of rest)) ≡ [] → (setting_preamble one two (whole_lines (parts_of (one ++ 10 ∷ rest)))).setting ≡ version_one_tso
 setting_without_model one two rest h none =
     let header = header_back one two One rest h in
     let lines = setting_lines two header.line (whole_lines (parts_of rest)) in

@@ -19,6 +19,6 @@ unfoldable pub has_keyword : List ℕ → List ℕ → Bool
 has_keyword word line = begins_with (λ token. bytes_eq token word) (tokens_of line)
 
 -- the first of these lines, where it is a line `model`
-abbrev pub model_lines : List (List ℕ) → List (List ℕ)
-model_lines [] = []
-model_lines (line ∷ lines) = if has_keyword (codes "model") line then line ∷ [] else []
+abbrev pub model_line_in : List (List ℕ) → List (List ℕ)
+model_line_in [] = []
+model_line_in (line ∷ lines) = if has_keyword (codes "model") line then line ∷ [] else []

@@ -62,9 +62,12 @@ pub(crate) trait Form: Copy {
     fn admit(self, setting: &Setting, tally: &mut Tally) -> Result<(), Why>
         requires said { CanSay (format.grammar (setting_of setting.now)) (Item self) }
         requires kept { (items : List Self) × keeps (setting_of setting.now) tally.old items }
-        ensures admitted { (items : List Self) → keeps (setting_of setting.now) tally.old items → OnOk result (keeps (setting_of setting.now) tally.new (items ++ self ∷ [])) }
-        ensures clean { (items : List Self) → keeps (setting_of setting.now) tally.old items → OnOk result ((format.grammar (setting_of setting.now)).item_fault items self ≡ None) }
-        ensures refused { (items : List Self) → keeps (setting_of setting.now) tally.old items → IfErr result (IsItemRefusedFor (format.grammar (setting_of setting.now)) items self) };
+        ensures admitted { (items : List Self) → keeps (setting_of setting.now) tally.old items →
+            OnOk result (keeps (setting_of setting.now) tally.new (items ++ self ∷ [])) }
+        ensures clean { (items : List Self) → keeps (setting_of setting.now) tally.old items →
+            OnOk result ((format.grammar (setting_of setting.now)).item_fault items self ≡ None) }
+        ensures refused { (items : List Self) → keeps (setting_of setting.now) tally.old items →
+            IfErr result (IsItemRefusedFor (format.grammar (setting_of setting.now)) items self) };
 }
 
 impl Form for Outcome {

@@ -9,7 +9,7 @@ ghost use Rattle.tso_ops.specs.Values.{TraceValue, ProgramValue};
 ghost use Rattle.tso_text.specs.Texts.{processor_of, SpellsTrace, SpellsProgram, SpellsSchedule, IsSpelledTrace, IsSpelledProgram, IsSpelledSchedule, text_byte_limit};
 ghost use Rattle.tso_text.specs.Printed.{program_header, trace_header, trace_text, program_text, schedule_text};
 ghost use Rattle.tso_text.specs.Refusals.{IsTraceRefusal, IsProgramRefusal, IsScheduleRefusal, IsRefusedTrace, IsRefusedProgram, IsRefusedSchedule};
-ghost use Rattle.tso_text.specs.Lines.{model_lines, whole_lines};
+ghost use Rattle.tso_text.specs.Lines.{model_line_in, whole_lines};
 ghost use Rattle.tso_ops.specs.declared.acts.Act.{Act};
 ghost use Rattle.tso_text.specs.declared.faults.Why.{Why};
 
@@ -47,13 +47,16 @@ pub fn schedules()
     ensures never_both { (text : List ℕ) → IsSpelledSchedule text → IsRefusedSchedule text → ⊥ }
     ensures one_value { (text : List ℕ) (acts others : List Act) → SpellsSchedule text acts → SpellsSchedule text others → acts ≡ others }
     ensures one_text { (text : List ℕ) (acts : List Act) → SpellsSchedule text acts → text ≡ schedule_text acts }
-    ensures printed { (acts : List Act) → All (λ act. processor_of act ≤ 15) acts → length (schedule_text acts) ≤ text_byte_limit → SpellsSchedule (schedule_text acts) acts }
+    ensures printed { (acts : List Act) → All (λ act. processor_of act ≤ 15) acts → length (schedule_text acts) ≤ text_byte_limit →
+        SpellsSchedule (schedule_text acts) acts }
     ensures one_refusal { (text : List ℕ) (j k : ℕ) (v w : Why) → IsScheduleRefusal text j v → IsScheduleRefusal text k w → (j ≡ k) × (v ≡ w) }
 {}
 
 /// A trace or a program of version 1 whose text has no line `model` is of version 1 under TSO, without first values: so what
 /// is said of such values holds of all texts that have neither.
 pub fn texts_without_a_model()
-    ensures traces { (rest : List ℕ) (t : TraceValue) → model_lines (whole_lines (parts_of rest)) ≡ [] → SpellsTrace (trace_header One ++ 10 ∷ rest) t → t.setting ≡ version_one_tso }
-    ensures programs { (rest : List ℕ) (p : ProgramValue) → model_lines (whole_lines (parts_of rest)) ≡ [] → SpellsProgram (program_header One ++ 10 ∷ rest) p → p.setting ≡ version_one_tso }
+    ensures traces { (rest : List ℕ) (t : TraceValue) → model_line_in (whole_lines (parts_of rest)) ≡ [] →
+        SpellsTrace (trace_header One ++ 10 ∷ rest) t → t.setting ≡ version_one_tso }
+    ensures programs { (rest : List ℕ) (p : ProgramValue) → model_line_in (whole_lines (parts_of rest)) ≡ [] →
+        SpellsProgram (program_header One ++ 10 ∷ rest) p → p.setting ≡ version_one_tso }
 {}

@@ -67,7 +67,8 @@ pub fn two_numbers(tokens: Option<&[u8]>) -> Result<(u64, u64), Why>
 /// The numbers of just three tokens after a keyword; refused as `two_numbers` refuses.
 #[tactic(auto, unfolding(crate::specs::Numbers::numbers))]
 pub fn three_numbers(tokens: Option<&[u8]>) -> Result<(u64, u64, u64), Why>
-    ensures { MatchResult result (λ n. numbers 3 (tokens_after tokens.entry) ≡ Ok (n.0 ∷ n.1 ∷ n.2 ∷ [])) (λ why. numbers 3 (tokens_after tokens.entry) ≡ Err why) }
+    ensures { MatchResult result (λ n. numbers 3 (tokens_after tokens.entry) ≡ Ok (n.0 ∷ n.1 ∷ n.2 ∷ []))
+        (λ why. numbers 3 (tokens_after tokens.entry) ≡ Err why) }
 {
     let (first, rest) = token_of(tokens)?;
     let (second, rest) = token_of(rest)?;

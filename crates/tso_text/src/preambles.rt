@@ -45,7 +45,8 @@ pub(crate) fn read_setting<'a>(
 ) -> Result<(Setting, usize, &'a [u8]), TextFault>
     requires { length text.now ≤ text_byte_limit }
     ensures begun { IfOk result (λ begun. HasBegun (setting_preamble one.now two.now (whole_lines (parts_of text.now))) text.now (setting_of begun.0) begun.1 begun.2.now) }
-    ensures refused { IfErr result (λ fault. fault.why ≢ Why.OutOfMemory → IsPreambleRefusal (setting_preamble one.now two.now (whole_lines (parts_of text.now))) fault.line fault.why) }
+    ensures refused { IfErr result (λ fault. fault.why ≢ Why.OutOfMemory →
+        IsPreambleRefusal (setting_preamble one.now two.now (whole_lines (parts_of text.now))) fault.line fault.why) }
     ensures memory { IfErr result (λ fault. fault.why ≡ Why.OutOfMemory → fault.line ≡ 0) }
 {
     let (version, after_header) = match read_version(one, two, text) {

@@ -48,7 +48,8 @@ pub fn print_program(alloc: Global, program: &Program) -> Result<String, OutOfMe
 /// and the text is within the limit. OutOfMemory where an allocation was refused.
 pub fn print_schedule(alloc: Global, acts: &[Act]) -> Result<String, OutOfMemory>
     ensures lines { IfOk result (λ text. string_bytes text ≡ schedule_text acts.now) }
-    ensures spelled { IfOk result (λ text. All (λ act. processor_of act ≤ 15) acts.now → length (string_bytes text) ≤ text_byte_limit → SpellsSchedule (string_bytes text) acts.now) }
+    ensures spelled { IfOk result (λ text. All (λ act. processor_of act ≤ 15) acts.now → length (string_bytes text) ≤ text_byte_limit →
+        SpellsSchedule (string_bytes text) acts.now) }
 {
     let mut text = String::from_str(alloc, "tso schedule 1\n")?;
     print_items(&mut text, acts)?;

@@ -110,7 +110,8 @@ fn read_body<T: Form>(
     requires { lines + length text.now ≤ text_byte_limit }
     ensures found { IfOk result (λ lists. SpellsBody (T.format.grammar (setting_of setting.now)) (parts_of text.now) (rows lists.items)) }
     ensures kept { IfOk result (λ lists. IsKept (T.keeps (setting_of setting.now)) (rows lists.items)) }
-    ensures refused { IfErr result (λ fault. fault.why ≢ Why.OutOfMemory → IsBodyRefusedAfter (T.format.grammar (setting_of setting.now)) (parts_of text.now) lines fault.line fault.why) }
+    ensures refused { IfErr result (λ fault. fault.why ≢ Why.OutOfMemory →
+        IsBodyRefusedAfter (T.format.grammar (setting_of setting.now)) (parts_of text.now) lines fault.line fault.why) }
     ensures memory { IfErr result (λ fault. fault.why ≡ Why.OutOfMemory → fault.line ≡ 0) }
 {
     let mut rest = text;

@@ -13,7 +13,7 @@ use Rattle.unit_core.proofs.StbarFacts.{entries_in_order}
 use Rattle.unit_kinds.specs.Buffer.{StoreBufferValue, new_store_buffer, waiting_after}
 use Rattle.unit_core.specs.Histories.{HistoryValue}
 use Rattle.unit_kinds.specs.Internal.Partial.{IsPartialUnit, PartialBuffersValue, TakesNextDrains}
-use Rattle.unit_kinds.specs.Partial.{AreNextDrains, DrainsAndTakes, IsNextAddress, IsNextDrain, partial_design, partial_unit, state_of}
+use Rattle.unit_kinds.specs.Partial.{AreNextDrains, DrainsAndTakes, IsNextAddress, IsNextDrain, machine_state, partial_design, partial_unit}
 use Rattle.unit_kinds.proofs.BufferFacts.{waiting-machine}
 use Rattle.unit_kinds.proofs.PartialBufferFacts.{oldest-found, oldest-within}
 
@@ -157,7 +157,7 @@ Takes-drains_and old new p count step own takes = record {
   before = takes.drains;
   after = [];
   steps = ap (λ (u : StoreBufferValue). u.steps) takes.is;
-  drains_before = subst (λ q. AreDrainsOf q takes.drains) (sym own) (drains-of (state_of old) p p takes.drains (omega arith) takes.are);
+  drains_before = subst (λ q. AreDrainsOf q takes.drains) (sym own) (drains-of (machine_state old) p p takes.drains (omega arith) takes.are);
   drains_after = tt;
   kept = record { design = ap (λ (u : StoreBufferValue). partial_design u.capacity) takes.is; lawful = refl; order = refl; first = ap (λ (u : StoreBufferValue). u.first) takes.is };
 }

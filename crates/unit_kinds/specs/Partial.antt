@@ -16,8 +16,8 @@ abbrev pub partial_unit : StoreBufferValue → UnitValue
 partial_unit u = record { design = partial_design u.capacity; steps = u.steps; lawful = true; order = Pso; first = u.first; waiting = waiting_after u.first u.steps }
 
 -- the machine's state after the unit's steps
-abbrev pub state_of : StoreBufferValue → State
-state_of u = after (first_state u.first) u.steps
+abbrev pub machine_state : StoreBufferValue → State
+machine_state u = after (first_state u.first) u.steps
 
 -- Entries of the address are the next to leave the buffer: of those with the smallest number of STBARs it has the greatest address.
 pub record IsNextAddress (buffer : List Entry) (a : ℕ) : Type 0 where
@@ -43,10 +43,10 @@ AreNextDrains p s (step ∷ steps) = IsNextDrain p s step × AreNextDrains p (ne
 pub record DrainsAndTakes (old new : StoreBufferValue) (p count : ℕ) (step : Step) : Type 0 where
   pub drains : List Step
   pub as_many : length drains ≡ count
-  pub are : AreNextDrains p (state_of old) drains
+  pub are : AreNextDrains p (machine_state old) drains
   pub is : new ≡ record old { steps = old.steps ++ (drains ++ step ∷ []) }
 
 -- The unit drained one entry of processor p where it answers so, and else is as it was.
 abbrev pub DrainsNext : StoreBufferValue → StoreBufferValue → ℕ → Bool → Type 0
-DrainsNext old new p true = (step : Step) × IsNextDrain p (state_of old) step × (new ≡ record old { steps = old.steps ++ step ∷ [] })
+DrainsNext old new p true = (step : Step) × IsNextDrain p (machine_state old) step × (new ≡ record old { steps = old.steps ++ step ∷ [] })
 DrainsNext old new p false = new ≡ old

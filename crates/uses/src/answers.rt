@@ -1,6 +1,6 @@
 //! Of the crates that answer a question about a text or a stream.
 
-use log_reports::report_log;
+use log_reports::{AsExplainedLog, LogReporting, report_log};
 use outcome_reports::{count_seen, list_outcomes};
 use progress_meters::NoMeter;
 use request_options::{
@@ -12,7 +12,7 @@ use std::sync::Wait;
 use std::thread::Threads;
 use text_streams::Fault;
 use trace_batches::{Batch, BatchOptions};
-use trace_decisions::{AsDecision, DecisionLimits, decide_input};
+use trace_decisions::{AsDecision, ByDecision, decide_input};
 use trace_judging::judge;
 use trace_reduction::reduce_trace;
 use trace_reports::{Answer, Verdict};
@@ -37,11 +37,11 @@ pub fn decide_a_reader<H: Threads + Wait, R: Read, W: Write>(
     reader: &mut R,
     writer: &mut W,
 ) -> Result<Answer, Fault> {
-    let limits = DecisionLimits {
+    let question = ByDecision {
         workers: 1,
         effort: 100_000,
     };
-    let answer = decide_input(rt, alloc, reader, writer, limits, &AsDecision)?;
+    let answer = decide_input(rt, alloc, reader, writer, question, &AsDecision)?;
     Ok(answer)
 }
 
@@ -84,7 +84,9 @@ pub fn report_a_log<H: Threads + Wait + AllocGlobal, R: Read, W: Write, E: Write
         needs_end: false,
         form: LogForm::Explained,
     };
-    let verdict = report_log(rt, options, &NoMeter, reader, writer, errors)?;
+    let rendering = &AsExplainedLog;
+    let reporting = LogReporting { options, rendering };
+    let verdict = report_log(rt, &reporting, &NoMeter, reader, writer, errors)?;
     Ok(verdict)
 }
 

@@ -6,7 +6,7 @@ use rand_core::Rng;
 use std::alloc::Global;
 use std::io::{Read, Write};
 use text_streams::{Fault, read_all, write_text};
-use trace_streams::PieceReader;
+use trace_streams::TraceTextReader;
 use tso_cert::{Certificate, read_cert};
 use tso_evidence::{Evidence, read_evidence};
 use tso_ops::{OutOfMemory, Outcome, Program, Refused, Trace};
@@ -36,13 +36,16 @@ pub fn trace_of_a_text(alloc: Global, text: &[u8]) -> Result<Trace, TextFault> {
 pub fn certificate_of_a_text(
     alloc: Global,
     text: &[u8],
-) -> Result<Certificate, tso_cert::TextFault> {
+) -> Result<Certificate, tso_cert::CertificateTextFault> {
     let certificate = read_cert(alloc, text)?;
     Ok(certificate)
 }
 
 /// `tso_evidence`: the evidence that a text spells.
-pub fn evidence_of_a_text(alloc: Global, text: &[u8]) -> Result<Evidence, tso_evidence::TextFault> {
+pub fn evidence_of_a_text(
+    alloc: Global,
+    text: &[u8],
+) -> Result<Evidence, tso_evidence::EvidenceTextFault> {
     let evidence = read_evidence(alloc, text)?;
     Ok(evidence)
 }
@@ -66,9 +69,9 @@ pub fn copy_a_text<R: Read, W: Write>(
 
 /// `trace_streams`: the next trace of a stream, as it came.
 pub fn next_of_a_stream<R: Read>(
-    pieces: &mut PieceReader,
+    texts: &mut TraceTextReader,
     reader: &mut R,
 ) -> Result<Option<Vec<u8>>, Fault> {
-    let piece = pieces.next(reader)?;
-    Ok(piece)
+    let text = texts.next(reader)?;
+    Ok(text)
 }

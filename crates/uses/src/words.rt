@@ -1,13 +1,11 @@
 //! Of what is said of a trace and of a decision: reports, explanations, pictures.
 
-ghost use Rattle.trace_reports.specs.Findings.{IsFinding};
-
 use decision_explanation::explain_evidence;
 use decision_pictures::draw_evidence;
 use std::alloc::{AllocError, Global};
 use trace_explanation::{EventNames, explain, explain_named};
 use trace_pictures::draw;
-use trace_reports::{AsReport, Finding, Report, render};
+use trace_reports::{AsReport, Finding, Rendering};
 use tso_evidence::Evidence;
 use tso_ops::Trace;
 
@@ -16,10 +14,8 @@ pub fn report_of_a_finding(
     alloc: Global,
     trace: &Trace,
     finding: &Finding,
-) -> Result<Report, AllocError>
-    requires { IsFinding trace.now finding.now }
-{
-    let report = render(alloc, trace, finding, &AsReport)?;
+) -> Result<String, AllocError> {
+    let report = AsReport.text_of_found(alloc, trace, finding)?;
     Ok(report)
 }
 

@@ -6,10 +6,11 @@ use Rattle.tso_cert.specs.declared.rules.InferredRule.{InferredRule}
 use Rattle.tso_model.specs.NewEdges.{IsGivenBy}
 use Rattle.chain_reach.specs.declared.types.Groups.{Groups}
 use Rattle.chain_reach.specs.declared.types.Reach.{Reach}
-use Rattle.chain_reach.specs.Groups.{nodes_of, group_of}
+use Rattle.chain_reach.specs.Groups.{node_count, group_of}
 use Rattle.chain_reach.specs.Leading.{Leads}
 use Rattle.chain_rules.specs.declared.types.RuleTables.{RuleTables}
 use Rattle.chain_rules.specs.Chains.{AreChainsOf}
+use Rattle.chain_rules.specs.Rows.{IsNewBy}
 use Rattle.chain_rules.specs.Internal.Tables.{HasTables}
 
 -- The numbers of the chains were lowered: to each number that must be, and to no number but those that may be. What is no number of the chains
@@ -18,7 +19,7 @@ pub record Lowers (chains : Groups) (old new : List ℕ) (Must May : ℕ → Typ
   pub sized : length new ≡ length old
   pub kept : (d : ℕ) → slice_index new d ≤ slice_index old d
   pub must : (v : ℕ) → Must v → slice_index new (group_of chains v) ≤ v
-  pub may : (d : ℕ) → d < length old → slice_index new d < nodes_of chains →
+  pub may : (d : ℕ) → d < length old → slice_index new d < node_count chains →
       (slice_index new d ≡ slice_index old d) ⊎ ((group_of chains (slice_index new d) ≡ d) × May (slice_index new d))
 
 -- The number of a chain was lowered to n, where that is less; the others are as they were.
@@ -46,9 +47,13 @@ IsGivenOrSame t r u v = ((rule : InferredRule) × (l : ℕ) × IsGivenBy t rule 
 abbrev pub LowersFor : TraceValue → Reach → InferredRule → (ℕ → ℕ → Type 0) → ℕ → List ℕ → List ℕ → Type 0
 LowersFor t r rule Of u old new = Lowers r.chains old new (IsNewOf t r rule Of u) (IsGivenOrSame t r u)
 
+-- the numbers were lowered to what the rules give from u
+abbrev pub LowersToNew : TraceValue → Reach → ℕ → List ℕ → List ℕ → Type 0
+LowersToNew t r u old new = Lowers r.chains old new (IsNewBy t r u) (IsGivenOrSame t r u)
+
 -- v is a number of the chains, not u, and u doesn't lead to it
 abbrev pub IsUnled : Reach → ℕ → ℕ → Type 0
-IsUnled r u v = (v ≢ u) × (v < nodes_of r.chains) × (Leads r u v → ⊥)
+IsUnled r u v = (v ≢ u) × (v < node_count r.chains) × (Leads r u v → ⊥)
 
 -- v is one of the least numbers of the chains below d, not u, and u doesn't lead to it
 abbrev pub IsLeft : Reach → ℕ → List ℕ → ℕ → ℕ → Type 0

@@ -2,7 +2,7 @@
 //! judges traces that stand one after the other, or decides on them.
 
 use crate::help::Help;
-use crate::options::MAX_WORKERS;
+use crate::options::MAX_REQUESTED_WORKERS;
 use crate::parameters::{Accepted, Description, NameList, Parameter};
 use crate::subcommands::shared;
 
@@ -76,7 +76,7 @@ pub(crate) static BATCH: Description = Description {
         Parameter::Option {
             name: "workers",
             value_name: "N",
-            accepted: Accepted::Number(1, MAX_WORKERS as u64),
+            accepted: Accepted::Number(1, MAX_REQUESTED_WORKERS as u64),
             default: Some("1"),
             help: "How many traces are judged side by side, 1 to 64",
         },

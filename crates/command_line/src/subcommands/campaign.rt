@@ -2,7 +2,7 @@
 //! --procs P --ops O --addrs A`: runs or replays the programs that many seeds draw.
 
 use crate::help::Help;
-use crate::options::MAX_WORKERS;
+use crate::options::MAX_REQUESTED_WORKERS;
 use crate::parameters::{Accepted, Description, Parameter};
 use crate::subcommands::shared;
 
@@ -65,7 +65,7 @@ pub(crate) static CAMPAIGN: Description = Description {
         Parameter::Option {
             name: "workers",
             value_name: "N",
-            accepted: Accepted::Number(1, MAX_WORKERS as u64),
+            accepted: Accepted::Number(1, MAX_REQUESTED_WORKERS as u64),
             default: Some("1"),
             help: "How many workers share the seeds, 1 to 64",
         },

@@ -1,18 +1,18 @@
 //! Parameters that several subcommands have. Some of their texts of help tell limits.
 
-use crate::options::{MAX_CAPACITY, MAX_DRAIN_TURNS, MAX_WORKERS};
+use crate::options::{MAX_CAPACITY, MAX_DRAIN_TURNS, MAX_REQUESTED_WORKERS};
 use crate::parameters::{Accepted, NameList, Parameter};
 
 /// `--workers N`.
 pub(crate) const WORKERS: Parameter = Parameter::Option {
     name: "workers",
     value_name: "N",
-    accepted: Accepted::Number(1, MAX_WORKERS as u64),
+    accepted: Accepted::Number(1, MAX_REQUESTED_WORKERS as u64),
     default: Some("1"),
     help: "How many workers judge, 1 to 64",
 };
 
-const _: () = prove!(MAX_WORKERS == 64);
+const _: () = prove!(MAX_REQUESTED_WORKERS == 64);
 
 /// `--nth K`.
 pub(crate) const NTH: Parameter = Parameter::Optional {

@@ -30,7 +30,7 @@ pub record IsRow (cells : List (Op × ℕ)) (n : ℕ) (buffer : List Entry) (stb
   pub told : answered ≡ outcomes_with (take n cells)
 
 -- The words stand for this state of the machine, in which the processors were answered this.
-pub record Stands (program : ProgramValue) (addresses words : List ℕ) (s : State) (answered : ℕ → List Outcome) : Type 0 where
+pub record Represents (program : ProgramValue) (addresses words : List ℕ) (s : State) (answered : ℕ → List Outcome) : Type 0 where
   pub width : length words ≡ width_of program addresses
   pub memory_words : length s.memory ≡ 256
   pub buffers : length s.buffers ≡ 16
@@ -47,7 +47,7 @@ pub record Reaches (program : ProgramValue) (addresses words : List ℕ) : Type 
   pub run : IsRun program.setting.order memory steps
   pub processors : HasProcessors (list_count program) steps
   pub ops : AreFirstOpsOf program steps
-  pub stands : Stands program addresses words (after (first_state memory) steps) (λ p. outcomes_of p steps)
+  pub stands : Represents program addresses words (after (first_state memory) steps) (λ p. outcomes_of p steps)
 
 -- The addresses have a place for each address that an operation stores to, and none twice; addresses and processors are in range.
 pub record HasPlaces (program : ProgramValue) (addresses : List ℕ) : Type 0 where

@@ -3,7 +3,7 @@ use Rattle.std.specs.Prelude.{◌≡◌, ℕ, List, [], ◌∷◌, ◌++◌}
 use Rattle.tso_ops.specs.declared.ops.Outcome.{Outcome}
 use Rattle.log_selections.specs.Cuts.{IsCutFrom}
 use Rattle.log_text.specs.declared.logs.LoggedOperation.{LoggedOperation}
-use Rattle.log_text.specs.LogValues.{outcomes_of}
+use Rattle.log_text.specs.LogValues.{logged_outcomes}
 use Rattle.log_selections.specs.Internal.Accesses.{numbers_from}
 use Rattle.log_selections.specs.declared.keeping.Origins.{Origins}
 use Rattle.log_selections.specs.declared.keeping.Origins.TheVariants.{Barrier, Access, Swap}
@@ -16,4 +16,4 @@ numbers_in (Swap load store) = load ∷ store ∷ []
 -- The outcomes are cut out of a processor's operations, if these are the numbers of operations; those of the events that are kept have been pushed.
 abbrev pub IsKeptOf : (addresses numbers : List ℕ) (list : List LoggedOperation) (origins pushed : List ℕ) (outcomes : List Outcome) → Type 0
 IsKeptOf addresses numbers list origins pushed outcomes =
-    (n : ℕ) → numbers ≡ numbers_from n list → (here : List ℕ) × IsCutFrom addresses n (outcomes_of list) outcomes here × (pushed ≡ origins ++ here)
+    (n : ℕ) → numbers ≡ numbers_from n list → (here : List ℕ) × IsCutFrom addresses n (logged_outcomes list) outcomes here × (pushed ≡ origins ++ here)

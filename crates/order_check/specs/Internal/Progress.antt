@@ -1,9 +1,10 @@
 -- What is known of a list once some of its events are passed.
-use Rattle.std.specs.Prelude.{◌≡◌, ◌⊎◌, ◌↔◌, ℕ, suc, ◌<◌, ◌≤◌, List, length, slice_index}
+use Rattle.std.specs.Prelude.{◌≡◌, ◌⊎◌, ◌↔◌, ℕ, suc, ◌<◌, ◌≤◌, Bool, IsTrue, List, Some, length, slice_index}
 use Rattle.bitsets.specs.Rows.{HasNumber}
 use Rattle.tso_ops.specs.Values.{TraceValue}
 use Rattle.tso_ops.specs.Limits.{IsTrace}
-use Rattle.tso_ops.specs.Events.{IsEvent, IsStoreTo}
+use Rattle.tso_ops.specs.declared.events.Event.{Event}
+use Rattle.tso_ops.specs.Events.{event_at, IsEvent, IsStoreTo}
 use Rattle.tso_model.specs.Axioms.{place}
 use Rattle.order_check.specs.declared.progress.Progress.{Progress}
 use Rattle.order_check.specs.Internal.Places.{ArePlaces}
@@ -24,3 +25,7 @@ pub record HasPassed (t : TraceValue) (order : List ℕ) (k : ℕ) (progress : P
 -- the events up to this one are passed
 abbrev pub HasJustPassed : TraceValue → List ℕ → ℕ → Progress → Type 0
 HasJustPassed t order n progress = HasPassed t order (suc (place order n)) progress
+
+-- the answer about event n, which has just been passed, says of each order that can have been passed so whether this is so
+abbrev pub IsAnswerAt : TraceValue → Progress → ℕ → Event → Bool → (List ℕ → Type 0) → Type 0
+IsAnswerAt t progress n event answer Fact = (order : List ℕ) → HasJustPassed t order n progress → event_at t n ≡ Some event → IsTrue answer ↔ Fact order

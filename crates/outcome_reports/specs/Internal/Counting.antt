@@ -6,12 +6,12 @@ use Rattle.tso_ops.specs.declared.ops.Outcome.{Outcome}
 use Rattle.tso_ops.specs.Settings.{SettingValue}
 use Rattle.tso_ops.specs.Values.{ProgramValue, TraceValue, program_of, rows, trace_of_lists}
 use Rattle.final_states.specs.FinalStates.{is_below}
-use Rattle.trace_streams.specs.Pieces.{ArePieces}
+use Rattle.trace_streams.specs.TraceTexts.{AreTraceTexts}
 use Rattle.final_states.specs.FinalStates.{IsRunTrace}
-use Rattle.outcome_reports.specs.SeenTraces.{AreSightings, is_foreign, is_seen, is_unreached}
+use Rattle.outcome_reports.specs.SeenTraces.{AreClassesOf, is_foreign, is_seen, is_unreached}
 use Rattle.outcome_reports.specs.declared.counts.SeenCounts.{SeenCounts}
-use Rattle.outcome_reports.specs.declared.sightings.Sighting.{Sighting}
-use Rattle.outcome_reports.specs.declared.sightings.Sighting.TheVariants.{Seen, Unreached, Foreign}
+use Rattle.outcome_reports.specs.declared.classes.TraceClass.{TraceClass}
+use Rattle.outcome_reports.specs.declared.classes.TraceClass.TheVariants.{Reached, Unreached, Foreign}
 
 -- ---- traces
 
@@ -40,30 +40,30 @@ IsPlaceOf keys values None = AreRising keys → (k : ℕ) → k < length keys �
 
 -- ---- what a trace is to them
 
-abbrev pub IsSightingOf : ProgramValue → List TraceValue → TraceValue → Sighting → Type 0
-IsSightingOf program traces t (Seen k) = slice_get traces k ≡ Some t
-IsSightingOf program traces t Unreached = (program_of t ≡ program) × (IsRunTrace program t → ⊥)
-IsSightingOf program traces t Foreign = program_of t ≢ program
+abbrev pub IsClassOfTrace : ProgramValue → List TraceValue → TraceValue → TraceClass → Type 0
+IsClassOfTrace program traces t (Reached k) = slice_get traces k ≡ Some t
+IsClassOfTrace program traces t Unreached = (program_of t ≡ program) × (IsRunTrace program t → ⊥)
+IsClassOfTrace program traces t Foreign = program_of t ≢ program
 
 -- if it is one of so many traces, its place is below their number
-abbrev pub IsWithin : ℕ → Sighting → Type 0
-IsWithin count (Seen k) = k < count
+abbrev pub IsWithin : ℕ → TraceClass → Type 0
+IsWithin count (Reached k) = k < count
 IsWithin count Unreached = Unit {0}
 IsWithin count Foreign = Unit {0}
 
 -- ---- counts
 
--- how often each of so many traces is among the sightings, and how often each other
-pub record CountsOf (count : ℕ) (sightings : List Sighting) (counts : SeenCounts) : Type 0 where
+-- how often each of so many traces is among the classes, and how often each other
+pub record CountsOf (count : ℕ) (classes : List TraceClass) (counts : SeenCounts) : Type 0 where
   pub wide : length counts.seen.items ≡ count
-  pub seen : (k : ℕ) → k < count → get_or counts.seen.items k 0 ≡ count_by (is_seen k) sightings
-  pub unreached : counts.unreached ≡ count_by is_unreached sightings
-  pub foreign : counts.foreign ≡ count_by is_foreign sightings
+  pub seen : (k : ℕ) → k < count → get_or counts.seen.items k 0 ≡ count_by (is_seen k) classes
+  pub unreached : counts.unreached ≡ count_by is_unreached classes
+  pub foreign : counts.foreign ≡ count_by is_foreign classes
 
--- those of the pieces of a stream
-abbrev pub CountsPieces : ProgramValue → List TraceValue → SeenCounts → List ℕ → Type 0
-CountsPieces program traces counts stream =
-    (pieces : List (List ℕ)) × (sightings : List Sighting) × ArePieces stream pieces × AreSightings program traces pieces sightings × CountsOf (length traces) sightings counts
+-- those of the trace texts of a stream
+abbrev pub CountsTraceTexts : ProgramValue → List TraceValue → SeenCounts → List ℕ → Type 0
+CountsTraceTexts program traces counts stream =
+    (pieces : List (List ℕ)) × (classes : List TraceClass) × AreTraceTexts stream pieces × AreClassesOf program traces pieces classes × CountsOf (length traces) classes counts
 
 -- ---- the last of some lists
 

@@ -6,13 +6,13 @@ use Rattle.tso_evidence.specs.declared.refutations.RefutationLine.TheVariants.{S
 use Rattle.order_paths.specs.Paths.{IsCycle}
 use Rattle.refutation_check.specs.declared.faults.RefutationFault.{RefutationFault}
 use Rattle.refutation_check.specs.declared.pairs.Pair.{Pair}
-use Rattle.refutation_check.specs.Refutations.{AreTwoEvents, StepHolds}
+use Rattle.refutation_check.specs.Refutations.{AreTwoEvents, StepHoldsOver}
 use Rattle.refutation_check.specs.Refusals.{HasStepFault, HasCaseFault, HasCycleFault}
 use Rattle.refutation_check.specs.Internal.Pairs.{InForce, IsWith}
 
 -- the line has no fault where these pairs are in force
 abbrev pub LineHolds : TraceValue → List Pair → RefutationLine → Type 0
-LineHolds t pairs (Step s) = StepHolds t (InForce pairs) s
+LineHolds t pairs (Step s) = StepHoldsOver t (InForce pairs) s
 LineHolds t pairs (Case u v) = AreTwoEvents t u v
 LineHolds t pairs (Else u v) = Unit {0}
 LineHolds t pairs (Cycle numbers) = IsCycle (InForce pairs) numbers

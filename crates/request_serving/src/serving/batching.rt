@@ -3,14 +3,14 @@ ghost use Rattle.std.specs.Prelude.{◌≡◌, ◌<◌, ◌≤◌, [], Bool, Lis
 ghost use Rattle.std.specs.Borrow.{Bor};
 ghost use Rattle.std.specs.Io.KnownBytes.{Appends, Consumes};
 ghost use Rattle.std.specs.List.{list_all};
-ghost use Rattle.trace_batches.specs.Batches.{BatchText, HasJudged, HasWritten, IsBatchFault, Judges, LeavesBatch, LeavesText, WritesBatch, head_text};
+ghost use Rattle.trace_batches.specs.Batches.{BatchText, HasJudged, HasWritten, IsBatchFault, Judges, LeavesBatch, LeavesText, WritesBatch, batch_head_text};
 ghost use Rattle.text_streams.specs.Streams.{AppendsPrefix};
-ghost use Rattle.request_serving.specs.Batches.{AreTextsOfBatch, IsNamedText, are_several, told_name};
+ghost use Rattle.request_serving.specs.Batches.{AreTextsOfBatch, IsNamedText, are_several, name_in_lines};
 ghost use Rattle.request_texts.specs.OpenedFiles.{OpensFirst, OpensNext, name_in};
 ghost use Rattle.request_serving.specs.Internal.Batching.{files_in, reads_one};
 
 use command_line::BatchRequest;
-use request_texts::{Surroundings, open};
+use request_texts::{Environment, open};
 use std::alloc::Global;
 use std::io::{Read, Write};
 use std::sync::Wait;
@@ -35,7 +35,7 @@ struct NamedText<'a> {
 /// has. A file that can't be opened is left out, and told.
 pub(crate) fn batch_named<
     H: Threads + Wait + Sync + AllocGlobal,
-    O: Surroundings,
+    O: Environment,
     R: Read,
     W: Write,
     E: Write,
@@ -62,7 +62,7 @@ pub(crate) fn batch_named<
 }
 
 /// Begins the batch, and judges its texts, one after the other.
-fn judge_each<H: Threads + Wait + Sync + AllocGlobal, O: Surroundings, R: Read, W: Write, E: Write>(
+fn judge_each<H: Threads + Wait + Sync + AllocGlobal, O: Environment, R: Read, W: Write, E: Write>(
     rt: &H,
     request: &BatchRequest<'_>,
     files: &mut O,
@@ -98,8 +98,8 @@ fn begin<W: Write>(
 ) -> Result<Batch, Fault>
     requires { 1 ≤ request.now.workers }
     ensures begun { IfOk result (λ batch. HasJudged batch request.now.printing []) }
-    ensures whole { OnOk result (Appends (W.contents writer.old) (W.contents writer.new) (head_text request.now.printing)) }
-    ensures prefix { AppendsPrefix (W.contents writer.old) (W.contents writer.new) (head_text request.now.printing) }
+    ensures whole { OnOk result (Appends (W.contents writer.old) (W.contents writer.new) (batch_head_text request.now.printing)) }
+    ensures prefix { AppendsPrefix (W.contents writer.old) (W.contents writer.new) (batch_head_text request.now.printing) }
     ensures fault { IfErr result IsBatchFault }
 {
     let options = BatchOptions {
@@ -112,7 +112,7 @@ fn begin<W: Write>(
 /// The text at a place, with the name that its lines have.
 fn text_at<'a>(several: bool, texts: &[Option<&'a str>], i: usize) -> NamedText<'a>
     requires { i < length texts.now }
-    ensures name { name_in result.name ≡ told_name several (name_in result.file) }
+    ensures name { name_in result.name ≡ name_in_lines several (name_in result.file) }
     ensures file { (default : Option (Bor (List ℕ))) → result.file ≡ get_or texts.now i default }
 {
     let file = texts[i];
@@ -129,7 +129,7 @@ fn are_several(texts: &[Option<&str>]) -> bool
 
 /// The name that the lines of a text have, where there are several texts.
 fn told_name(several: bool, file: Option<&str>) -> Option<&str>
-    ensures { name_in result ≡ told_name several (name_in file.entry) }
+    ensures { name_in result ≡ name_in_lines several (name_in file.entry) }
 {
     if several {
         Some(file.unwrap_or(STANDARD_INPUT))
@@ -140,7 +140,7 @@ fn told_name(several: bool, file: Option<&str>) -> Option<&str>
 
 impl NamedText<'_> {
     /// Judges it as the next text of a batch, or tells that its file can't be opened.
-    fn judge<H: Threads + Wait + Sync, O: Surroundings, R: Read, W: Write, E: Write>(
+    fn judge<H: Threads + Wait + Sync, O: Environment, R: Read, W: Write, E: Write>(
         self,
         rt: &H,
         batch: &mut Batch,

@@ -12,16 +12,16 @@ ghost use Rattle.request_texts.specs.OpenedFiles.{HasRefusedFirstText, OpensFirs
 
 use crate::serving::numbering::refuse_number;
 use command_line::{CheckRequest, TextPair};
-use request_texts::{Surroundings, open};
+use request_texts::{Environment, open};
 use std::alloc::Global;
 use std::io::{Read, Write};
 use text_streams::Fault;
 use trace_judging::check_texts;
 use trace_reports::Verdict;
-use trace_streams::read_piece;
+use trace_streams::read_trace_text;
 
 /// Checks a certificate against a trace. Their files are opened before one is read.
-pub(crate) fn check_named<O: Surroundings, R: Read, W: Write>(
+pub(crate) fn check_named<O: Environment, R: Read, W: Write>(
     alloc: Global,
     request: &CheckRequest<'_>,
     files: &mut O,
@@ -73,7 +73,7 @@ fn check_readers<T: Read, C: Read, W: Write>(
 {
     match nth {
         None => check_texts(alloc, traces, certificates, writer),
-        Some(number) => match read_piece(alloc, number, traces)? {
+        Some(number) => match read_trace_text(alloc, number, traces)? {
             Some(piece) => check_texts(alloc, &mut piece.as_slice(), certificates, writer),
             None => refuse_number(Verdict::Refused, writer),
         },

@@ -9,14 +9,14 @@ ghost use Rattle.request_texts.specs.OpenedFiles.{HasRefusedFirstText, OpensFirs
 
 use command_line::{SeenRequest, TextPair};
 use outcome_reports::count_seen;
-use request_texts::{Surroundings, open};
+use request_texts::{Environment, open};
 use std::alloc::Global;
 use std::io::{Read, Write};
 use text_streams::Fault;
 use trace_reports::Answer;
 
 /// Writes how often a stream of traces has each trace of a program's runs. The files of both are opened before one is read.
-pub(crate) fn count_named<O: Surroundings, R: Read, W: Write>(
+pub(crate) fn count_named<O: Environment, R: Read, W: Write>(
     alloc: Global,
     request: &SeenRequest<'_>,
     files: &mut O,

@@ -16,18 +16,19 @@ use crate::serving::numbering::refuse_number;
 use command_line::{DecideRequest, Presentation};
 use decision_explanation::AsDecisionExplanation;
 use decision_pictures::AsDecisionPicture;
-use request_texts::{Surroundings, open};
+use request_texts::{Environment, open};
 use std::io::{Read, Write};
 use std::sync::Wait;
 use std::thread::Threads;
 use text_streams::Fault;
-use trace_decisions::{AsDecision, DecisionLimits, decide_input};
+use trace_decisions::{AsDecision, ByDecision};
+use trace_judging::answer_reader;
 use trace_reports::Answer;
-use trace_streams::read_piece;
+use trace_streams::read_trace_text;
 
 /// Decides on the trace in a file, or else in what the reader has, with at most as many steps as the request names, and presents
 /// the decision.
-pub(crate) fn decide_named<H: Threads + Wait + AllocGlobal, O: Surroundings, R: Read, W: Write>(
+pub(crate) fn decide_named<H: Threads + Wait + AllocGlobal, O: Environment, R: Read, W: Write>(
     rt: &H,
     request: &DecideRequest<'_>,
     files: &mut O,
@@ -65,7 +66,7 @@ fn decide_reader<H: Threads + Wait + AllocGlobal, R: Read, W: Write>(
 {
     match request.nth {
         None => present(rt, request, reader, writer),
-        Some(number) => match read_piece(rt.alloc(), number, reader)? {
+        Some(number) => match read_trace_text(rt.alloc(), number, reader)? {
             Some(piece) => present(rt, request, &mut piece.as_slice(), writer),
             None => refuse_number(Answer::Refused, writer),
         },
@@ -85,20 +86,20 @@ fn present<H: Threads + Wait + AllocGlobal, R: Read, W: Write>(
     ensures taken { IfOk result (λ _. LosesPrefix trace_read_limit (R.remaining reader.old) (R.remaining reader.new)) }
 {
     let alloc = rt.alloc();
-    let limits = DecisionLimits {
+    let question = ByDecision {
         workers: request.workers,
         effort: request.effort,
     };
     match request.presentation {
-        Presentation::Report => decide_input(rt, alloc, reader, writer, limits, &AsDecision),
+        Presentation::Report => answer_reader(rt, alloc, reader, writer, &question, &AsDecision),
         Presentation::Explanation => {
-            decide_input(rt, alloc, reader, writer, limits, &AsDecisionExplanation)
+            answer_reader(rt, alloc, reader, writer, &question, &AsDecisionExplanation)
         }
         Presentation::Picture => {
-            decide_input(rt, alloc, reader, writer, limits, &AsDecisionPicture)
+            answer_reader(rt, alloc, reader, writer, &question, &AsDecisionPicture)
         }
         Presentation::FieldPicture => {
-            decide_input(rt, alloc, reader, writer, limits, &AsDecisionPicture)
+            answer_reader(rt, alloc, reader, writer, &question, &AsDecisionPicture)
         }
     }
 }

@@ -7,28 +7,28 @@ ghost use Rattle.text_streams.specs.Streams.{LosesPrefix};
 ghost use Rattle.trace_reports.specs.Renderings.{IsTextOfReader};
 ghost use Rattle.text_streams.specs.WrittenTexts.{LeavesAtFault, WritesWhole};
 ghost use Rattle.trace_judging.specs.Limits.{HasWorkerRange};
-ghost use Rattle.request_serving.specs.Endings.{IsPresented};
+ghost use Rattle.request_serving.specs.Endings.{IsVerdictAsAsked};
 ghost use Rattle.request_texts.specs.NthTraces.{TakesTrace};
 ghost use Rattle.request_serving.specs.Presentations.{refused_as, said_as};
 ghost use Rattle.request_texts.specs.OpenedFiles.{OpensNext, files_named, name_in, text_bytes};
 
 use crate::serving::numbering::refuse_number;
 use command_line::{JudgeRequest, Presentation};
-use request_texts::{Surroundings, open};
+use request_texts::{Environment, open};
 use std::io::{Read, Write};
 use std::sync::Wait;
 use std::thread::Threads;
 use text_streams::Fault;
 use trace_explanation::AsExplanation;
-use trace_judging::{judge, judge_with};
+use trace_judging::{ByRules, answer_reader, judge};
 use trace_pictures::{AsFieldPicture, AsPicture};
 use trace_reports::Verdict;
-use trace_streams::read_piece;
+use trace_streams::read_trace_text;
 
 /// Judges the trace in a file, or else in what the reader has, and presents the verdict.
 pub(crate) fn judge_named<
     H: Threads + Wait + Sync + AllocGlobal,
-    O: Surroundings,
+    O: Environment,
     R: Read,
     W: Write,
 >(
@@ -39,8 +39,8 @@ pub(crate) fn judge_named<
     writer: &mut W,
 ) -> Result<Verdict, Fault>
     requires { HasWorkerRange request.now.workers }
-    ensures presented { let remaining = text_bytes (name_in request.now.file) (R.remaining reader.old) (O.bytes files.old) in IfOk result (WritesWhole (IsPresented request.now.presentation request.now.nth remaining) (W.contents writer.old) (W.contents writer.new)) }
-    ensures fault { let remaining = text_bytes (name_in request.now.file) (R.remaining reader.old) (O.bytes files.old) in IfErr result (LeavesAtFault (IsPresented request.now.presentation request.now.nth remaining) (W.contents writer.old) (W.contents writer.new)) }
+    ensures presented { let remaining = text_bytes (name_in request.now.file) (R.remaining reader.old) (O.bytes files.old) in IfOk result (WritesWhole (IsVerdictAsAsked request.now.presentation request.now.nth remaining) (W.contents writer.old) (W.contents writer.new)) }
+    ensures fault { let remaining = text_bytes (name_in request.now.file) (R.remaining reader.old) (O.bytes files.old) in IfErr result (LeavesAtFault (IsVerdictAsAsked request.now.presentation request.now.nth remaining) (W.contents writer.old) (W.contents writer.new)) }
     ensures opened { OpensNext (O.opened files.old) (O.opened files.new) (files_named (asked_of (Judge request.now))) }
     ensures unread { IfSome request.now.file (λ _. reader.new ≡ reader.old) }
     ensures taken { request.now.file ≡ None → IfOk result (λ _. TakesTrace request.now.nth (R.remaining reader.old) (R.remaining reader.new)) }
@@ -63,13 +63,13 @@ fn judge_reader<H: Threads + Wait + Sync + AllocGlobal, R: Read, W: Write>(
     writer: &mut W,
 ) -> Result<Verdict, Fault>
     requires { HasWorkerRange request.now.workers }
-    ensures presented { IfOk result (WritesWhole (IsPresented request.now.presentation request.now.nth (R.remaining reader.old)) (W.contents writer.old) (W.contents writer.new)) }
-    ensures fault { IfErr result (LeavesAtFault (IsPresented request.now.presentation request.now.nth (R.remaining reader.old)) (W.contents writer.old) (W.contents writer.new)) }
+    ensures presented { IfOk result (WritesWhole (IsVerdictAsAsked request.now.presentation request.now.nth (R.remaining reader.old)) (W.contents writer.old) (W.contents writer.new)) }
+    ensures fault { IfErr result (LeavesAtFault (IsVerdictAsAsked request.now.presentation request.now.nth (R.remaining reader.old)) (W.contents writer.old) (W.contents writer.new)) }
     ensures taken { IfOk result (λ _. TakesTrace request.now.nth (R.remaining reader.old) (R.remaining reader.new)) }
 {
     match request.nth {
         None => present(rt, request, reader, writer),
-        Some(number) => match read_piece(rt.alloc(), number, reader)? {
+        Some(number) => match read_trace_text(rt.alloc(), number, reader)? {
             Some(piece) => present(rt, request, &mut piece.as_slice(), writer),
             None => refuse_number(Verdict::Refused, writer),
         },
@@ -89,16 +89,17 @@ fn present<H: Threads + Wait + Sync + AllocGlobal, R: Read, W: Write>(
     ensures taken { IfOk result (λ _. LosesPrefix trace_read_limit (R.remaining reader.old) (R.remaining reader.new)) }
 {
     let alloc = rt.alloc();
+    let question = ByRules {
+        workers: request.workers,
+    };
     match request.presentation {
         Presentation::Report => judge(rt, alloc, reader, writer, request.workers),
         Presentation::Explanation => {
-            judge_with(rt, alloc, reader, writer, request.workers, &AsExplanation)
+            answer_reader(rt, alloc, reader, writer, &question, &AsExplanation)
         }
-        Presentation::Picture => {
-            judge_with(rt, alloc, reader, writer, request.workers, &AsPicture)
-        }
+        Presentation::Picture => answer_reader(rt, alloc, reader, writer, &question, &AsPicture),
         Presentation::FieldPicture => {
-            judge_with(rt, alloc, reader, writer, request.workers, &AsFieldPicture)
+            answer_reader(rt, alloc, reader, writer, &question, &AsFieldPicture)
         }
     }
 }

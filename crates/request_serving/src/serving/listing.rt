@@ -11,14 +11,14 @@ ghost use Rattle.request_texts.specs.OpenedFiles.{OpensNext, files_named, name_i
 
 use command_line::OutcomesRequest;
 use outcome_reports::list_outcomes;
-use request_texts::{Surroundings, open};
+use request_texts::{Environment, open};
 use std::alloc::Global;
 use std::io::{Read, Write};
 use text_streams::Fault;
 use trace_reports::Answer;
 
 /// Writes the outcomes of the program in a file, or else of that which the reader has.
-pub(crate) fn list_named<O: Surroundings, R: Read, W: Write>(
+pub(crate) fn list_named<O: Environment, R: Read, W: Write>(
     alloc: Global,
     request: &OutcomesRequest<'_>,
     files: &mut O,

@@ -11,19 +11,19 @@ ghost use Rattle.request_serving.specs.Reducing.{IsReduced};
 
 use crate::serving::numbering::refuse_number;
 use command_line::ReduceRequest;
-use request_texts::{Surroundings, open};
+use request_texts::{Environment, open};
 use std::io::{Read, Write};
 use std::sync::Wait;
 use std::thread::Threads;
 use text_streams::Fault;
 use trace_reduction::reduce_trace;
 use trace_reports::Verdict;
-use trace_streams::read_piece;
+use trace_streams::read_trace_text;
 
 /// Reduces the trace in a file, or else in what the reader has. Nothing is written to the errors at a fault.
 pub(crate) fn reduce_named<
     H: Threads + Wait + AllocGlobal,
-    O: Surroundings,
+    O: Environment,
     R: Read,
     W: Write,
     E: Write,
@@ -69,7 +69,7 @@ fn reduce_reader<H: Threads + Wait + AllocGlobal, R: Read, W: Write, E: Write>(
     let alloc = rt.alloc();
     match nth {
         None => reduce_trace(rt, alloc, reader, writer, errors),
-        Some(number) => match read_piece(alloc, number, reader)? {
+        Some(number) => match read_trace_text(alloc, number, reader)? {
             Some(piece) => reduce_trace(rt, alloc, &mut piece.as_slice(), writer, errors),
             None => refuse_number(Verdict::Refused, writer),
         },

@@ -12,16 +12,16 @@ ghost use Rattle.request_texts.specs.OpenedFiles.{HasRefusedFirstText, OpensFirs
 
 use crate::serving::numbering::refuse_number;
 use command_line::{CheckRequest, TextPair};
-use request_texts::{Surroundings, open};
+use request_texts::{Environment, open};
 use std::alloc::Global;
 use std::io::{Read, Write};
 use text_streams::Fault;
 use trace_decisions::verify_texts;
 use trace_reports::Answer;
-use trace_streams::read_piece;
+use trace_streams::read_trace_text;
 
 /// Checks evidence against a trace. Their files are opened before one is read.
-pub(crate) fn verify_named<O: Surroundings, R: Read, W: Write>(
+pub(crate) fn verify_named<O: Environment, R: Read, W: Write>(
     alloc: Global,
     request: &CheckRequest<'_>,
     files: &mut O,
@@ -73,7 +73,7 @@ fn verify_readers<T: Read, E: Read, W: Write>(
 {
     match nth {
         None => verify_texts(alloc, traces, evidence, writer),
-        Some(number) => match read_piece(alloc, number, traces)? {
+        Some(number) => match read_trace_text(alloc, number, traces)? {
             Some(piece) => verify_texts(alloc, &mut piece.as_slice(), evidence, writer),
             None => refuse_number(Answer::Refused, writer),
         },

@@ -3,7 +3,7 @@
 
 use command_line::{CommandLine, MakeOptions, Notes, Request, read_arguments};
 use request_serving::drive;
-use request_texts::{Diagnostics, Surroundings, open};
+use request_texts::{Diagnostics, Environment, open};
 use run_serving::make;
 use std::alloc::{AllocError, AllocGlobal, Global};
 use std::io::{Read, Write};
@@ -22,7 +22,7 @@ pub(super) fn request_of_arguments<'a>(
 }
 
 /// `request_texts`: opens a file and closes it.
-pub(super) fn open_a_file<O: Surroundings>(files: &mut O, name: &str) -> Result<(), Fault> {
+pub(super) fn open_a_file<O: Environment>(files: &mut O, name: &str) -> Result<(), Fault> {
     let mut file = open(files, name)?;
     let mut first = [0u8; 1];
     let _ = file.read(&mut first);

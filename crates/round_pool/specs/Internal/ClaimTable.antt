@@ -4,11 +4,11 @@ use mathlib.Core.Option.{some}
 use lib.ListN.{get_elem?}
 use Rattle.atomic_table.specs.Table.{State, Me, Step}
 use Rattle.round_pool.specs.declared.claims.seat_view.SeatView.{SeatView}
-use Rattle.round_pool.specs.ClaimCounts.{times, all_parts}
+use Rattle.round_pool.specs.ClaimCounts.{times_listed, all_parts}
 
 -- how often the place stands in the views
 abbrev pub standing : ℕ → List SeatView → ℕ
-standing p views = sum_by (λ v. times p v.places) views
+standing p views = sum_by (λ v. times_listed p v.places) views
 
 abbrev pub seat_view : List ℕ → ℕ → ℕ → SeatView
 seat_view places tried parts = record { places = places; tried = tried; parts = parts }
@@ -31,7 +31,7 @@ pub record KeepsClaims (places : ℕ) (s : State (Unit {0}) SeatView) : Type 0 w
 
 -- no place stands twice in the view; and with all parts it has each place that was tried
 abbrev pub IsKnown : SeatView → Type 0
-IsKnown v = ((p : ℕ) → times p v.places ≤ 1) × (v.parts ≡ all_parts → (p : ℕ) → p < v.tried → times p v.places ≡ 1)
+IsKnown v = ((p : ℕ) → times_listed p v.places ≤ 1) × (v.parts ≡ all_parts → (p : ℕ) → p < v.tried → times_listed p v.places ≡ 1)
 
 -- the view after the next place was tried, whose word was this one
 abbrev pub after_try : SeatView → ℕ → SeatView

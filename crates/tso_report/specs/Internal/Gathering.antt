@@ -12,7 +12,7 @@ use Rattle.issue_desk.specs.declared.faults.RunFault.TheVariants as run
 use Rattle.text_streams.specs.declared.faults.Fault.{Fault}
 use Rattle.text_streams.specs.declared.faults.Fault.TheVariants.{OutOfMemory, NoThread, Missing}
 use Rattle.unit_core.specs.Units.{UnitValue, new_unit}
-use Rattle.tso_report.specs.Campaigns.{AreResultsFrom, IsResultOfSeed, SeedResult, seed_lines, total_line, violations_of}
+use Rattle.tso_report.specs.Campaigns.{AreResultsFrom, IsResultOfSeed, SeedResult, campaign_total_line, seed_lines, violations_of}
 
 -- the fault of a seed whose run gave no record
 abbrev pub fault_of_seed : ℕ → RunFault → Fault
@@ -69,7 +69,7 @@ pub record AreKnown (plan : CampaignPlan) (units : List UnitValue) (violations :
 
 -- what is printed by verdicts and by what is kept of traces
 abbrev pub text_by : CampaignPrinting → ℕ → List Bool → List (List ℕ) → List ℕ
-text_by Lines first violations texts = seed_lines first violations ++ total_line violations
+text_by Lines first violations texts = seed_lines first violations ++ campaign_total_line violations
 text_by Traces first violations texts = concat texts
 
 -- these are the units of the seeds from this one on

@@ -2,7 +2,7 @@
 ghost use Rattle.std.specs.Prelude.{◌≡◌, ◌+◌, ◌++◌, ◌≤◌, ◌^◌, IfOk, length, string_bytes};
 ghost use Rattle.std.specs.List.{concat, count_by};
 ghost use Rattle.tso_ops.specs.Values.{rows};
-ghost use Rattle.tso_report.specs.Campaigns.{seed_lines, total_line};
+ghost use Rattle.tso_report.specs.Campaigns.{campaign_total_line, seed_lines};
 ghost use Rattle.tso_report.specs.Internal.Gathering.{text_by};
 
 use super::gathering::Known;
@@ -31,7 +31,7 @@ pub(super) fn campaign_text(
 /// The lines of the seeds from `first` on, of which it is told whether they are violations, and the last line.
 fn lines_text(alloc: Global, first: u64, violations: &[bool]) -> Result<String, OutOfMemory>
     requires { first + length violations.now ≤ 2 ^ 64 }
-    ensures { IfOk result (λ text. string_bytes text ≡ seed_lines first violations.now ++ total_line violations.now) }
+    ensures { IfOk result (λ text. string_bytes text ≡ seed_lines first violations.now ++ campaign_total_line violations.now) }
 {
     let mut text = seed_lines(alloc, first, violations)?;
     let seeds = violations.len();

@@ -17,8 +17,7 @@ use std::marker::{Brand, Model, PhantomData};
 use std::sync::Wait;
 use std::thread::Threads;
 use text_streams::Fault;
-use trace_judging::judge_trace;
-use trace_reports::AsReport;
+use trace_judging::is_violation;
 use tso_ops::{Act, Order, OutOfMemory, Program, Trace};
 use tso_text::print_trace;
 use unit_core::{Account, MemoryUnit, Recorded, replay_over};
@@ -160,12 +159,12 @@ fn judge_seed<S: SeedUnits, U: MemoryUnit + Send, R: Threads + Wait + Sync>(
 ) -> Result<Judged<S>, Fault> {
     let Job { seed, unit, .. } = job;
     let recorded = record_of_seed(rt, alloc, &plan, seed, unit)?;
-    let verdict = judge_trace(rt, alloc, recorded.trace(), 1, &AsReport)?.verdict;
+    let violation = is_violation(rt, alloc, recorded.trace(), 1)?;
     let text = kept_text(alloc, plan.printing, recorded.trace())?;
     Ok(Judged {
         seed,
         plan,
-        violation: verdict.is_violation(),
+        violation,
         text,
         of: PhantomData,
     })

@@ -9,7 +9,7 @@ use Rattle.tso_ops.specs.declared.settings.Version.TheVariants.{One}
 use Rattle.tso_ops.specs.Settings.{SettingValue, with_entry}
 use Rattle.tso_ops.specs.Limits.{KeepsEntries}
 use Rattle.tso_text.specs.declared.faults.Why.{Why}
-use Rattle.tso_text.specs.Lines.{begins_with, model_lines, has_keyword, whole_lines}
+use Rattle.tso_text.specs.Lines.{begins_with, model_line_in, has_keyword, whole_lines}
 use Rattle.tso_text.specs.Internal.LineReadings.{entry_by, entry_fault_after}
 use Rattle.tso_text.specs.Internal.Preambles.{version_of, model_fault, order_of_lines, entries_after, entry_faults, entry_said, said_entry_fault}
 use Rattle.tso_text.specs.Internal.Spelling.{Preamble, Grammar, lists_read}
@@ -57,7 +57,7 @@ HasNoHeader one two text = begins_with (λ line. bytes_eq line one || bytes_eq l
 -- The text begins with so many lines `model`, without a fault, of this memory model; `rest` is what stands after them.
 pub record HasModel (text : List ℕ) (order : Order) (lines : ℕ) (rest : List ℕ) : Type 0 where
   pub model : List (List ℕ)
-  pub is : model_lines (whole_lines (parts_of text)) ≡ model
+  pub is : model_line_in (whole_lines (parts_of text)) ≡ model
   pub says : order_of_lines model ≡ order
   pub count : length model ≡ lines
   pub clean : AreFaultless (map model_fault model)
@@ -67,7 +67,7 @@ pub record HasModel (text : List ℕ) (order : Order) (lines : ℕ) (rest : List
 -- The text begins with a line `model` that has this fault.
 pub record HasBadModel (text : List ℕ) (why : Why) : Type 0 where
   pub line : List ℕ
-  pub is : model_lines (whole_lines (parts_of text)) ≡ line ∷ []
+  pub is : model_line_in (whole_lines (parts_of text)) ≡ line ∷ []
   pub refused : IsRefusedFor (model_fault line) why
 
 -- The lines `init` that the text begins with are these, without a fault, and those that the rest begins with.

@@ -10,7 +10,7 @@ use Rattle.tso_ops.specs.declared.settings.Version.TheVariants.{One, Two}
 use Rattle.tso_ops.specs.Settings.{version_one_tso}
 use Rattle.tso_text.specs.declared.faults.Why.{Why}
 use Rattle.tso_text.specs.declared.faults.Why.TheVariants.{BadHeader}
-use Rattle.tso_text.specs.Lines.{begins_with, has_keyword, model_lines}
+use Rattle.tso_text.specs.Lines.{begins_with, has_keyword, model_line_in}
 use Rattle.tso_text.specs.Internal.LineReadings.{fault_of, model_said, entry_by, entry_fault_after}
 use Rattle.tso_text.specs.Internal.Spelling.{Preamble}
 
@@ -81,7 +81,7 @@ pub record SettingLines : Type 0 where
 -- those of a text with this first line and these lines after it
 abbrev pub setting_lines : List ℕ → List ℕ → List (List ℕ) → SettingLines
 setting_lines two line lines =
-    record { version = version_of two line; model = model_lines lines; entries = entry_lines (version_of two line) (drop (length (model_lines lines)) lines) }
+    record { version = version_of two line; model = model_line_in lines; entries = entry_lines (version_of two line) (drop (length (model_line_in lines)) lines) }
 
 -- the preamble that they are, after the header
 abbrev pub preamble_by : Option Why → SettingLines → Preamble

@@ -1,7 +1,7 @@
 use Rattle.std.proofs.Common.{◌≡◌, ◌<◌, length, take, get_or, refl, sym, subst, arith}
 use Rattle.std.proofs.lemmas.List.{take_more, take_all}
 use Rattle.std.proofs.lemmas.List.Elements.{Contains-get_or}
-use Rattle.chain_reach.specs.Groups.{nodes_of}
+use Rattle.chain_reach.specs.Groups.{node_count}
 use Rattle.chain_rules.specs.Internal.Joined.{JoinsRow}
 use Rattle.chain_rules.proofs.JoinedFacts.{JoinsRow-start, JoinsRow-step}
 use Rattle.chain_rules.proofs.joining.join_row.Goals as goal
@@ -10,12 +10,12 @@ pub loop-v-init : goal.loop-v-init
 loop-v-init c = JoinsRow-start c.args.reach.now c.args.u _ refl
 
 pub join-requires-clause-from : goal.join-requires-clause-from
-join-requires-clause-from c = subst (λ g. c.args.u < nodes_of g) (sym c.loop-v.invariant.chains) c.requires.from
+join-requires-clause-from c = subst (λ g. c.args.u < node_count g) (sym c.loop-v.invariant.chains) c.requires.from
 
 pub join-requires-clause-to : goal.join-requires-clause-to
 join-requires-clause-to c =
     let v = get_or c.args.row.now c.loop-v.v-index 0 in
-    subst (λ g. v < nodes_of g) (sym c.loop-v.invariant.chains) (c.requires.to v (Contains-get_or c.args.row.now c.loop-v.v-index 0 c.loop-v-test.true))
+    subst (λ g. v < node_count g) (sym c.loop-v.invariant.chains) (c.requires.to v (Contains-get_or c.args.row.now c.loop-v.v-index 0 c.loop-v-test.true))
 
 pub loop-v-preserved : goal.loop-v-preserved
 loop-v-preserved c =

@@ -2,7 +2,7 @@ use Rattle.std.proofs.Common.{◌≡◌, ◌∙◌, ℕ, ◌<◌, [], length, ge
 use Rattle.std.proofs.lemmas.List.{length-map}
 use Rattle.std.specs.Global.{Vec}
 use Rattle.tso_ops.specs.Values.{rows}
-use Rattle.chain_reach.specs.Groups.{nodes_of}
+use Rattle.chain_reach.specs.Groups.{node_count}
 use Rattle.chain_rules.specs.Internal.Joined.{JoinsRow}
 use Rattle.tso_rules.proofs.VectorFacts.{row_at}
 use Rattle.chain_rules.proofs.JoinedFacts.{JoinsBelow-start, JoinsBelow-step, JoinsBelow-end, next_rank, listed_at}
@@ -13,7 +13,7 @@ loop-i-init c = JoinsBelow-start c.args.reach.now c.args.numbers.now (rows c.arg
 
 pub join_row-requires-clause-from : goal.join_row-requires-clause-from
 join_row-requires-clause-from c =
-    subst (λ g. get_or c.args.numbers.now c.loop-i.i 0 < nodes_of g) (sym c.loop-i.invariant.chains)
+    subst (λ g. get_or c.args.numbers.now c.loop-i.i 0 < node_count g) (sym c.loop-i.invariant.chains)
     (c.requires.numbers_within c.loop-i.i (let size = length-map c.args.made.now (λ (v : Vec ℕ). v.items) in omega (arith, c.loop-i-test.true, c.requires.count, size)))
 
 pub join_row-requires-clause-to : goal.join_row-requires-clause-to
@@ -22,7 +22,7 @@ join_row-requires-clause-to c = λ v has.
     let i = c.loop-i.i in
     let low : i < length (rows made) = (let size = length-map made (λ (v : Vec ℕ). v.items) in omega (arith, c.loop-i-test.true, size)) in
     let row : c.deref.result.now ≡ get_or (rows made) i [] = c.deref.ensures.value ∙ row_at made i c.index-made-i.result c.loop-i-test.true c.index-made-i.is in
-    subst (λ g. v < nodes_of g) (sym c.loop-i.invariant.chains)
+    subst (λ g. v < node_count g) (sym c.loop-i.invariant.chains)
     (c.requires.within (get_or c.args.numbers.now i 0) v (listed_at c.args.numbers.now (rows made) i v c.deref.result.now low c.requires.count row has))
 
 pub loop-i-preserved : goal.loop-i-preserved

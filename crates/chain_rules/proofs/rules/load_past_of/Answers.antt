@@ -1,6 +1,6 @@
 use Rattle.std.proofs.Common.{◌≡◌, ◌∙◌, ◌*◌, ◌<◌, length, arith, sym, subst, ap}
 use Rattle.chain_reach.specs.declared.types.Groups.{Groups}
-use Rattle.chain_reach.specs.Groups.{nodes_of, count_of}
+use Rattle.chain_reach.specs.Groups.{node_count, count_of}
 use Rattle.chain_rules.proofs.ListedFacts.{listed_none, listed_first}
 use Rattle.chain_rules.proofs.RuleFacts.{leads_from, loads_fit, any_within, row_within, load_past_empty, load_past_none, load_past_lowers}
 use Rattle.chain_rules.proofs.rules.load_past_of.Goals as goal
@@ -16,7 +16,7 @@ returns-in_default c = load_past_empty c.args.input.trace.now c.args.input.table
 pub group-chain-requires : goal.group-chain-requires
 group-chain-requires c =
     let any = listed_first c.list.result.now _ c.in-Some.any.now c.list.ensures c.in-Some.ensures.value in
-    subst (λ g. c.in-Some.any.now < nodes_of g) (sym c.chains.ensures.chains) (any_within c.args.input.trace.now c.args.input.tables.now c.args.input.reach.now c.args.u c.args.p c.args.a c.slot-slot.result c.in-Some.any.now
+    subst (λ g. c.in-Some.any.now < node_count g) (sym c.chains.ensures.chains) (any_within c.args.input.trace.now c.args.input.tables.now c.args.input.reach.now c.args.u c.args.p c.args.a c.slot-slot.result c.in-Some.any.now
     (record { ready = c.requires.ready; store = c.requires.store; processor = c.requires.processor; at = c.slot-slot.ensures }) any).0
 
 pub first_led-requires-clause-from : goal.first_led-requires-clause-from

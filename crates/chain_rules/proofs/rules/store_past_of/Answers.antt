@@ -1,6 +1,6 @@
 use Rattle.std.proofs.Common.{◌≡◌, ◌∙◌, ◌<◌, sym, subst, ap}
 use Rattle.chain_reach.specs.declared.types.Groups.{Groups}
-use Rattle.chain_reach.specs.Groups.{nodes_of, group_of}
+use Rattle.chain_reach.specs.Groups.{node_count, group_of}
 use Rattle.chain_rules.specs.Internal.Lowering.{LowersAt}
 use Rattle.chain_rules.proofs.ListedFacts.{listed_none, listed_first}
 use Rattle.chain_rules.proofs.RuleFacts.{leads_from, stores_fit, ends_within, store_past_empty, store_past_none, store_past_known, store_past_lowers}
@@ -17,7 +17,7 @@ returns-in_default c = store_past_empty c.args.input.trace.now c.args.input.tabl
 pub group-chain-requires : goal.group-chain-requires
 group-chain-requires c =
     let any = listed_first c.list.result.now _ c.in-Some.any.now c.list.ensures c.in-Some.ensures.value in
-    subst (λ g. c.in-Some.any.now < nodes_of g) (sym c.chains.ensures.chains) (ends_within c.args.input.trace.now c.args.input.tables.now c.args.input.reach.now c.args.u c.args.s c.args.p c.args.a c.slot-slot.result c.in-Some.any.now
+    subst (λ g. c.in-Some.any.now < node_count g) (sym c.chains.ensures.chains) (ends_within c.args.input.trace.now c.args.input.tables.now c.args.input.reach.now c.args.u c.args.s c.args.p c.args.a c.slot-slot.result c.in-Some.any.now
     (record { ready = c.requires.ready; load = c.requires.load; source = c.requires.source; processor = c.requires.processor; at = c.slot-slot.ensures }) any).0
 
 pub first_led-from-requires-clause-from : goal.first_led-from-requires-clause-from

@@ -3,7 +3,7 @@ use Rattle.std.proofs.lemmas.Result.{IfOk-weaker}
 use Rattle.clap.specs.Words.{found_of, one_of, rows_of}
 use Rattle.std.specs.Prelude.{codes}
 use Rattle.command_line.specs.Requests.{files_of}
-use Rattle.command_line.specs.Options.{number_of}
+use Rattle.command_line.specs.Options.{given_number}
 use Rattle.command_line.proofs.FoundLemmas.{verify_asked}
 use Rattle.command_line.proofs.found.verify.Goals as goal
 
@@ -13,4 +13,4 @@ returns-in-Some c = verify_asked (rows_of (found_of c.args.matches.now)) (Some (
 pub returns-in-None : goal.returns-in-None
 returns-in-None c =
     let rows = rows_of (found_of c.args.matches.now) in
-    IfOk-weaker c.refuse.result _ _ (λ request is. is ∙ verify_asked rows None (sym (ap (option_map files_of) c.in-None.is) ∙ c.text_pair.ensures) (number_of (one_of (codes "nth") rows)) refl) c.refuse.ensures
+    IfOk-weaker c.refuse.result _ _ (λ request is. is ∙ verify_asked rows None (sym (ap (option_map files_of) c.in-None.is) ∙ c.text_pair.ensures) (given_number (one_of (codes "nth") rows)) refl) c.refuse.ensures

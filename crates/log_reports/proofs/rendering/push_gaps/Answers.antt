@@ -4,5 +4,5 @@ use Rattle.log_reports.proofs.rendering.push_gaps.Goals as goal
 
 pub returns : goal.returns
 returns c =
-    let unknown = unknown_text c.args.options.max_unknown c.args.counts in
-    c.in_ok-push_unknown.ensures ∙ ap (λ xs. xs ++ unknown) c.in_ok-push_unsearched.ensures ∙ append_assoc (string_bytes c.args.text.now) (unsearched_text c.args.findings.now) unknown
+    let unknown = unknown_text c.args.found.now.options.max_unknown c.args.found.now.counts in
+    c.in_ok-push_unknown.ensures ∙ ap (λ xs. xs ++ unknown) c.in_ok-push_unsearched.ensures ∙ append_assoc (string_bytes c.args.text.now) (unsearched_text c.args.found.now.findings) unknown

@@ -4,5 +4,5 @@ use Rattle.log_reports.proofs.rendering.push_verdict.Goals as goal
 
 pub returns : goal.returns
 returns c =
-    let gaps = gaps_text c.args.options c.args.counts c.args.findings.now in
-    c.in_ok-push_gaps.ensures ∙ ap (λ xs. xs ++ gaps) c.in_ok-push_found.ensures ∙ append_assoc (string_bytes c.args.text.now) (found_text c.args.findings.now) gaps
+    let gaps = gaps_text c.args.found.now in
+    c.in_ok-push_gaps.ensures ∙ ap (λ xs. xs ++ gaps) c.in_ok-push_found.ensures ∙ append_assoc (string_bytes c.args.text.now) (found_text c.args.found.now.findings) gaps

@@ -4,15 +4,18 @@ use Rattle.log_selections.specs.Sources.{IsAmbiguousCount}
 use Rattle.log_reports.specs.Findings.{AreFindings, AreWrittenIn}
 use Rattle.log_reports.specs.LogCounts.{counts_of}
 use Rattle.log_reports.specs.LogReports.{verdict_of}
-use Rattle.log_reports.specs.LogTexts.{text_in}
+use Rattle.log_reports.specs.declared.forms.LogFound.{LogFound}
+use Rattle.log_reports.specs.declared.counts.LogCounts.{LogCounts}
 use Rattle.log_reports.proofs.reports.report_on.Goals as goal
 
 pub returns-clause-report : goal.returns-clause-report
 returns-clause-report g c =
     let findings = c.in_ok-findings.findings in
-    let options = c.args.options in
+    let options = c.args.reporting.now.options in
+    let said = g.P.LogRendering.said in
     let unknown = c.ambiguous_loads.result in
     let log = c.in_ok-known.ensures in
+    let with_counts : LogCounts → LogFound = λ n. record { options = options; counts = n; findings = findings } in
     let counts = c.in_ok-counts.ensures ∙ ap (λ (v : NumberedLog). counts_of v unknown) (c.log.ensures ∙ log) in
     record {
       findings = findings;
@@ -21,6 +24,6 @@ returns-clause-report g c =
       written = subst (λ (v : NumberedLog). AreWrittenIn v findings) log c.in_ok-findings.ensures.written;
       unknown = unknown;
       counted = subst (λ (v : NumberedLog). IsAmbiguousCount v unknown) log c.ambiguous_loads.ensures;
-      says = c.in_ok-render.ensures ∙ ap (λ (v : NumberedLog). text_in options c.in_ok-counts.counts v findings) log ∙ ap (λ n. text_in options n (log_value c.args.log) findings) counts;
-      gives = c.in_ok-verdict_of.ensures ∙ ap (λ n. verdict_of options n findings) counts;
+      says = c.in_ok-text_of_found.ensures ∙ ap (λ (v : NumberedLog). said v (with_counts c.in_ok-counts.counts)) log ∙ ap (λ n. said (log_value c.args.log) (with_counts n)) counts;
+      gives = c.in_ok-verdict_of.ensures ∙ ap (λ n. verdict_of (with_counts n)) counts;
     }

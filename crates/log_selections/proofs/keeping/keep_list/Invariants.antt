@@ -1,6 +1,6 @@
 use Rattle.std.proofs.Common.{◌≡◌, ℕ, ◌≤◌, List, ◌++◌, length, take}
 use Rattle.log_selections.specs.Cuts.{IsCutFrom}
-use Rattle.log_text.specs.LogValues.{outcomes_of}
+use Rattle.log_text.specs.LogValues.{logged_outcomes}
 use Rattle.log_selections.specs.Internal.Accesses.{numbers_from}
 use Rattle.log_selections.proofs.keeping.keep_list.Given as goal
 
@@ -9,4 +9,4 @@ abbrev pub invariant-loop-kept : goal.invariant-loop-kept
 invariant-loop-kept l =
     (l.next ≤ length l.list)
     × ((n : ℕ) → l.numbers ≡ numbers_from n l.list →
-    (here : List ℕ) × IsCutFrom l.addresses n (take l.next (outcomes_of l.list)) l.outcomes.items here × (l.origins.items ≡ l.fn.origins.items ++ here))
+    (here : List ℕ) × IsCutFrom l.addresses n (take l.next (logged_outcomes l.list)) l.outcomes.items here × (l.origins.items ≡ l.fn.origins.items ++ here))

@@ -10,7 +10,7 @@ pub returns-in-Ok-clause-ends : goal.returns-in-Ok-clause-ends
 returns-in-Ok-clause-ends g c =
     let o : Outputs = outputs (g.W.Write.contents c.args.writer.now) (g.W.Write.contents c.serve.new.writer) (g.E.Write.contents c.args.errors.now) (g.E.Write.contents c.serve.new.errors) in
     let input = g.R.Read.remaining c.args.reader.now in
-    let files = g.O.Surroundings.bytes c.args.files.now in
+    let files = g.O.Environment.bytes c.args.files.now in
     let done = c.serve.ensures.ends in
     record {
       asked = λ asked asks. subst (λ a. Does a input files o c.serve.result) (c.in-Ok.ensures.asked asked asks) (inl done);
@@ -21,7 +21,7 @@ returns-in-Ok-clause-ends g c =
 
 pub returns-in-Ok-clause-opened : goal.returns-in-Ok-clause-opened
 returns-in-Ok-clause-opened g c = λ asked asks.
-    subst (λ a. OpensFirst (g.O.Surroundings.opened c.args.files.now) (g.O.Surroundings.opened c.serve.new.files) (files_named a)) (c.in-Ok.ensures.asked asked asks) c.serve.ensures.first
+    subst (λ a. OpensFirst (g.O.Environment.opened c.args.files.now) (g.O.Environment.opened c.serve.new.files) (files_named a)) (c.in-Ok.ensures.asked asked asks) c.serve.ensures.first
 
 pub returns-in-Err-clause-ends : goal.returns-in-Err-clause-ends
 returns-in-Err-clause-ends g c =
@@ -52,14 +52,14 @@ returns-in-Err-clause-no_false_alarm g c = λ asked asks lawful three. omega (ar
 
 pub returns-in-Ok-clause-no_false_alarm_of_text : goal.returns-in-Ok-clause-no_false_alarm_of_text
 returns-in-Ok-clause-no_false_alarm_of_text g c = λ asked asks lawful.
-    c.serve.ensures.no_false_alarm_of_text (subst (λ a. RunsLawfully a (g.R.Read.remaining c.args.reader.now) (g.O.Surroundings.bytes c.args.files.now)) (sym (c.in-Ok.ensures.asked asked asks)) lawful)
+    c.serve.ensures.no_false_alarm_of_text (subst (λ a. RunsLawfully a (g.R.Read.remaining c.args.reader.now) (g.O.Environment.bytes c.args.files.now)) (sym (c.in-Ok.ensures.asked asked asks)) lawful)
 
 pub returns-in-Err-clause-no_false_alarm_of_text : goal.returns-in-Err-clause-no_false_alarm_of_text
 returns-in-Err-clause-no_false_alarm_of_text g c = λ asked asks lawful three. omega (arith, c.end_by.ensures.status, three)
 
 pub returns-in-Ok-clause-unread_after_refusal : goal.returns-in-Ok-clause-unread_after_refusal
 returns-in-Ok-clause-unread_after_refusal g c = λ asked asks refused.
-    c.serve.ensures.unread_after_refusal (subst (λ a. HasRefusedFirstText a (g.O.Surroundings.bytes c.args.files.now)) (sym (c.in-Ok.ensures.asked asked asks)) refused)
+    c.serve.ensures.unread_after_refusal (subst (λ a. HasRefusedFirstText a (g.O.Environment.bytes c.args.files.now)) (sym (c.in-Ok.ensures.asked asked asks)) refused)
 
 pub returns-in-Ok-clause-judges : goal.returns-in-Ok-clause-judges
 returns-in-Ok-clause-judges g c = file_judged _ _ _ _ _ (returns-in-Ok-clause-ends g c)

@@ -1,14 +1,13 @@
 use Rattle.command_line.specs.Requests.{asked_of, files_of}
 use Rattle.text_streams.specs.WrittenTexts.{LeavesAtFault}
 use Rattle.request_serving.specs.Deciding.{IsDecided}
-use Rattle.request_serving.specs.Endings.{IsPresented, Outputs, outputs}
+use Rattle.request_serving.specs.Endings.{IsLogged, IsVerdictAsAsked, Outputs, outputs}
 use Rattle.request_texts.specs.OpenedFiles.{name_in, text_bytes}
 use Rattle.run_serving.specs.Replaying.{IsReplayText}
 use Rattle.trace_reports.specs.Statuses.{status_of, status_of_answer}
 use Rattle.request_serving.specs.Batches.{AreTextsOfBatch}
 use Rattle.request_serving.specs.Internal.Batching.{files_in}
 use Rattle.request_serving.proofs.BatchingFacts.{ends_batched, read_files, unread_files}
-use Rattle.log_reports.specs.LogReports.{IsLogReportOfReader}
 use Rattle.request_serving.proofs.LoggingFacts.{ends_noted}
 use Rattle.request_serving.specs.Reducing.{IsReduced}
 use Rattle.request_serving.proofs.EndFacts.{at_text, ends_as, without_thread}
@@ -24,7 +23,7 @@ pub returns-in-Judge-clause-ends : goal.returns-in-Judge-clause-ends
 returns-in-Judge-clause-ends g c =
     let o : Outputs = outputs (g.W.Write.contents c.args.writer.now) (g.W.Write.contents c.judge_named.new.writer) (g.E.Write.contents c.args.errors.now) (g.E.Write.contents c.end.new.errors) in
     let judged = c.in-Judge.request in
-    let is_text = IsPresented judged.presentation judged.nth (text_bytes (name_in judged.file) (g.R.Read.remaining c.args.reader.now) (g.O.Surroundings.bytes c.args.files.now)) in
+    let is_text = IsVerdictAsAsked judged.presentation judged.nth (text_bytes (name_in judged.file) (g.R.Read.remaining c.args.reader.now) (g.O.Environment.bytes c.args.files.now)) in
     rw c.in-Judge.is (ends_as is_text status_of (LeavesAtFault is_text) o c.judge_named.result c.end.result c.judge_named.ensures.presented c.judge_named.ensures.fault c.end.ensures.verdict c.end.ensures.fault)
 
 pub returns-in-Judge-clause-first : goal.returns-in-Judge-clause-first
@@ -41,7 +40,7 @@ pub returns-in-Decide-clause-ends : goal.returns-in-Decide-clause-ends
 returns-in-Decide-clause-ends g c =
     let o : Outputs = outputs (g.W.Write.contents c.args.writer.now) (g.W.Write.contents c.decide_named-decided.new.writer) (g.E.Write.contents c.args.errors.now) (g.E.Write.contents c.end_answer.new.errors) in
     let request = c.in-Decide.request in
-    let is_text = IsDecided request.presentation request.effort request.nth (text_bytes (name_in request.file) (g.R.Read.remaining c.args.reader.now) (g.O.Surroundings.bytes c.args.files.now)) in
+    let is_text = IsDecided request.presentation request.effort request.nth (text_bytes (name_in request.file) (g.R.Read.remaining c.args.reader.now) (g.O.Environment.bytes c.args.files.now)) in
     rw c.in-Decide.is (ends_as is_text status_of_answer (LeavesAtFault is_text) o c.decide_named-decided.result c.end_answer.result c.decide_named-decided.ensures.decided c.decide_named-decided.ensures.fault c.end_answer.ensures.answer c.end_answer.ensures.fault)
 
 pub returns-in-Decide-clause-first : goal.returns-in-Decide-clause-first
@@ -58,7 +57,7 @@ pub returns-in-Reduce-clause-ends : goal.returns-in-Reduce-clause-ends
 returns-in-Reduce-clause-ends g c =
     let o : Outputs = outputs (g.W.Write.contents c.args.writer.now) (g.W.Write.contents c.reduce_named-reduced.new.writer) (g.E.Write.contents c.args.errors.now) (g.E.Write.contents c.end-in-Reduce.new.errors) in
     let request = c.in-Reduce.request in
-    let remaining = text_bytes (name_in request.file) (g.R.Read.remaining c.args.reader.now) (g.O.Surroundings.bytes c.args.files.now) in
+    let remaining = text_bytes (name_in request.file) (g.R.Read.remaining c.args.reader.now) (g.O.Environment.bytes c.args.files.now) in
     let reduced = c.reduce_named-reduced.ensures in
     rw c.in-Reduce.is (ends_noted (IsReduced request.nth remaining) status_of (g.E.Write.contents c.reduce_named-reduced.new.errors) o c.reduce_named-reduced.result c.end-in-Reduce.result reduced.whole reduced.left reduced.told reduced.untold c.end-in-Reduce.ensures.verdict c.end-in-Reduce.ensures.fault)
 
@@ -76,7 +75,7 @@ pub returns-in-Batch-clause-ends : goal.returns-in-Batch-clause-ends
 returns-in-Batch-clause-ends g c =
     let o : Outputs = outputs (g.W.Write.contents c.args.writer.now) (g.W.Write.contents c.batch_named-judged.new.writer) (g.E.Write.contents c.args.errors.now) (g.E.Write.contents c.end_answer-in-Batch.new.errors) in
     let request = c.in-Batch.request in
-    let are_texts = AreTextsOfBatch (files_in request.texts.items) (g.R.Read.remaining c.args.reader.now) (g.O.Surroundings.bytes c.args.files.now) in
+    let are_texts = AreTextsOfBatch (files_in request.texts.items) (g.R.Read.remaining c.args.reader.now) (g.O.Environment.bytes c.args.files.now) in
     let judged = c.batch_named-judged.ensures in
     rw c.in-Batch.is (ends_batched request.printing are_texts (g.E.Write.contents c.batch_named-judged.new.errors) o c.batch_named-judged.result c.end_answer-in-Batch.result judged.whole judged.left judged.fault c.end_answer-in-Batch.ensures.answer c.end_answer-in-Batch.ensures.fault)
 
@@ -98,9 +97,9 @@ pub returns-in-Log-clause-ends : goal.returns-in-Log-clause-ends
 returns-in-Log-clause-ends g c =
     let o : Outputs = outputs (g.W.Write.contents c.args.writer.now) (g.W.Write.contents c.log_named-reported.new.writer) (g.E.Write.contents c.args.errors.now) (g.E.Write.contents c.end_answer-in-Log.new.errors) in
     let request = c.in-Log.request in
-    let remaining = text_bytes (name_in request.file) (g.R.Read.remaining c.args.reader.now) (g.O.Surroundings.bytes c.args.files.now) in
+    let remaining = text_bytes (name_in request.file) (g.R.Read.remaining c.args.reader.now) (g.O.Environment.bytes c.args.files.now) in
     let logged = c.log_named-reported.ensures in
-    rw c.in-Log.is (ends_noted (IsLogReportOfReader request.options remaining) status_of_answer (g.E.Write.contents c.log_named-reported.new.errors) o c.log_named-reported.result c.end_answer-in-Log.result logged.whole logged.left logged.told logged.untold c.end_answer-in-Log.ensures.answer c.end_answer-in-Log.ensures.fault)
+    rw c.in-Log.is (ends_noted (IsLogged request.options remaining) status_of_answer (g.E.Write.contents c.log_named-reported.new.errors) o c.log_named-reported.result c.end_answer-in-Log.result logged.whole logged.left logged.told logged.untold c.end_answer-in-Log.ensures.answer c.end_answer-in-Log.ensures.fault)
 
 pub returns-in-Log-clause-first : goal.returns-in-Log-clause-first
 returns-in-Log-clause-first g c = rw c.in-Log.is (opens_all _ _ _ c.log_named-reported.ensures.opened)
@@ -116,7 +115,7 @@ pub returns-in-Replay-clause-ends : goal.returns-in-Replay-clause-ends
 returns-in-Replay-clause-ends g c =
     let o : Outputs = outputs (g.W.Write.contents c.args.writer.now) (g.W.Write.contents c.replay_named-replayed.new.writer) (g.E.Write.contents c.args.errors.now) (g.E.Write.contents c.end_with.new.errors) in
     let input = g.R.Read.remaining c.args.reader.now in
-    let files = g.O.Surroundings.bytes c.args.files.now in
+    let files = g.O.Environment.bytes c.args.files.now in
     let is_text = IsReplayText c.in-Replay.options (text_bytes (files_of c.in-Replay.texts).0 input files) (text_bytes (files_of c.in-Replay.texts).1 input files) in
     rw c.in-Replay.is (ends_as is_text (λ said. said) (LeavesAtFault is_text) o c.replay_named-replayed.result c.end_with.result c.replay_named-replayed.ensures.text c.replay_named-replayed.ensures.fault c.end_with.ensures.status c.end_with.ensures.fault)
 
@@ -131,7 +130,7 @@ pub returns-in-Run-clause-ends : goal.returns-in-Run-clause-ends
 returns-in-Run-clause-ends g c =
     let o : Outputs = outputs (g.W.Write.contents c.args.writer.now) (g.W.Write.contents c.run_named.new.writer) (g.E.Write.contents c.args.errors.now) (g.E.Write.contents c.end_run.new.errors) in
     let run = c.in-Run.request in
-    let programs = text_bytes (name_in run.program) (g.R.Read.remaining c.args.reader.now) (g.O.Surroundings.bytes c.args.files.now) in
+    let programs = text_bytes (name_in run.program) (g.R.Read.remaining c.args.reader.now) (g.O.Environment.bytes c.args.files.now) in
     rw c.in-Run.is (ends_run run.options programs o c.run_named.result c.end_run.result c.run_named.ensures.text c.run_named.ensures.fault c.end_run.ensures.status c.end_run.ensures.failure)
 
 pub returns-in-Run-clause-first : goal.returns-in-Run-clause-first
@@ -153,7 +152,7 @@ pub returns-in-Outcomes-clause-ends : goal.returns-in-Outcomes-clause-ends
 returns-in-Outcomes-clause-ends g c =
     let o : Outputs = outputs (g.W.Write.contents c.args.writer.now) (g.W.Write.contents c.list_named-listed.new.writer) (g.E.Write.contents c.args.errors.now) (g.E.Write.contents c.end_answer-in-Outcomes.new.errors) in
     let request = c.in-Outcomes.request in
-    let is_text = IsOutcomesOfReader request.options (text_bytes (name_in request.program) (g.R.Read.remaining c.args.reader.now) (g.O.Surroundings.bytes c.args.files.now)) in
+    let is_text = IsOutcomesOfReader request.options (text_bytes (name_in request.program) (g.R.Read.remaining c.args.reader.now) (g.O.Environment.bytes c.args.files.now)) in
     let listed = c.list_named-listed in
     let ended = c.end_answer-in-Outcomes in
     rw c.in-Outcomes.is (ends_as is_text status_of_answer (λ old new fault. (fault ≢ NoThread) × LeavesAtFault is_text old new fault) o listed.result ended.result listed.ensures.whole
@@ -173,7 +172,7 @@ pub returns-in-RunTimes-clause-ends : goal.returns-in-RunTimes-clause-ends
 returns-in-RunTimes-clause-ends g c =
     let o : Outputs = outputs (g.W.Write.contents c.args.writer.now) (g.W.Write.contents c.repeat_named-repeated.new.writer) (g.E.Write.contents c.args.errors.now) (g.E.Write.contents c.end_run-in-RunTimes.new.errors) in
     let request = c.in-RunTimes.request in
-    let programs = text_bytes (name_in request.program) (g.R.Read.remaining c.args.reader.now) (g.O.Surroundings.bytes c.args.files.now) in
+    let programs = text_bytes (name_in request.program) (g.R.Read.remaining c.args.reader.now) (g.O.Environment.bytes c.args.files.now) in
     let repeated = c.repeat_named-repeated in
     let ended = c.end_run-in-RunTimes in
     rw c.in-RunTimes.is (ends_run_times request.unit request.times programs o repeated.result ended.result repeated.ensures.whole repeated.ensures.left ended.ensures.status ended.ensures.failure)

@@ -13,7 +13,7 @@ returns-clause-text g c account =
     let explained = c.in_ok-explained.explained in
     let verdict = explained.verdict in
     let told = c.in_ok-explained.ensures in
-    let explanation = subst (λ t. IsTraceExplanation t (string_bytes explained.text) verdict) c.trace.ensures.is told.said in
-    let no_order = subst (λ t. verdict ≡ Violation → IsConsistent t → ⊥) c.trace.ensures.is told.no_order in
+    let explanation = subst (λ t. IsTraceExplanation t (string_bytes explained.text) verdict) c.trace.ensures.is told.rendered in
+    let no_order = subst (λ t. verdict ≡ Violation → IsConsistent t → ⊥) c.trace.ensures.is told.says.no_order in
     let whole : IsTraceExplanation t c.into_bytes.result.items verdict = search (rules, explanation) in
     (verdict, whole, λ lawful. consistent_verdict t _ verdict explanation no_order (lawful_consistent c.args.recorded.now c.trace.ensures.kept lawful), c.status_of.ensures)

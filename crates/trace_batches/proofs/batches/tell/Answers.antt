@@ -1,6 +1,6 @@
 use Rattle.std.proofs.Common.{rules}
-use Rattle.trace_streams.specs.Cutters.{rows}
 use Rattle.trace_batches.specs.Internal.Progress.{printing_by}
+use Rattle.tso_ops.specs.Values.{rows}
 use Rattle.trace_batches.proofs.JobFacts.{wrote_before, wrote_none}
 use Rattle.trace_batches.proofs.batches.tell.Goals as goal
 

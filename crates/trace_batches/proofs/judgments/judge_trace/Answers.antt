@@ -11,4 +11,4 @@ returns-in_ok-judgment-in-Decide-clause-said g c =
     let explains = c.args.question.explains in
     subst (λ method. IsJudgmentOn (asking method explains) t c.in_ok-judgment-in-Decide.judgment) (sym c.in-Decide.is)
     (subst (IsJudgmentOn (asking (Decide c.in-Decide.effort) explains) t) (sym c.in_ok-judgment-in-Decide.ensures)
-    (decision_said t c.in_ok-decision-in-Decide.decision c.in-Decide.effort explains is.decided is.tells))
+    (decision_said t c.in_ok-decision-in-Decide.decision c.in-Decide.effort explains is.found is.says))

@@ -103,7 +103,7 @@ fn reader_of_few_bytes_a_call(rt: HostRuntime) {
     }
 }
 
-/// How many bytes of the text are written when so many bytes of the stream came: the lines of the pieces that end in them.
+/// How many bytes of the text are written when so many bytes of the stream came: the lines of the trace texts that end in them.
 fn written_after(count: usize) -> usize {
     match count {
         0..35 => 0,

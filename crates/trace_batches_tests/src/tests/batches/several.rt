@@ -63,7 +63,7 @@ pub(super) static CASES: [Case; 10] = [
         TWO_VIOLATIONS,
         "{\"file\":\"a\",\"kept\":1,\"trace\":2}\n{\"file\":\"b/c.trace\",\"kept\":2,\"trace\":2}\n{\"traces\":5,\"violations\":2,\"refused\":2}\n",
     ),
-    // what ends with one text isn't joined with the next: a text without a last line `end` has a last piece
+    // what ends with one text isn't joined with the next: a text without a last line `end` has a last trace text
     (
         &[
             (Some("a"), "tso trace 1\nproc\nld 1 9\n"),

@@ -1,4 +1,4 @@
-//! Streams, how they are cut, and what is written of their pieces.
+//! Streams, how they are cut, and what is written of their trace texts.
 
 use super::{Case, DOCUMENT, JSON, JUNIT, QUIET, STREAM, TEXT, WORDS};
 use request_options::{BatchFormat, BatchMethod, BatchPrinting};

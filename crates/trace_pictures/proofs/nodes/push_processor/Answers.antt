@@ -1,10 +1,10 @@
 use Rattle.std.proofs.Common.{◌∙◌, string_bytes}
 use Rattle.trace_explanation.proofs.TextFacts.{grown-last}
-use Rattle.trace_pictures.specs.Nodes.{processor_text}
+use Rattle.trace_pictures.specs.Nodes.{processor_nodes_text}
 use Rattle.trace_pictures.proofs.nodes.push_processor.Goals as goal
 
 pub returns : goal.returns
-unfolding processor_text
+unfolding processor_nodes_text
 returns c width is =
     let rows = c.deref.ensures.value ∙ c.in_ok-rows.ensures in
     let said = rw rows at c.push_rows.ensures in

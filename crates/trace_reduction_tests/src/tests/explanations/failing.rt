@@ -10,10 +10,11 @@ use std::sync::Wait;
 use std::thread::Threads;
 use text_streams::Fault;
 use trace_explanation::AsExplanation;
-use trace_judging::judge_with;
+use trace_judging::{ByRules, answer_reader};
 use trace_pictures::{AsFieldPicture, AsPicture};
-use trace_reports::{Rendering, Verdict};
+use trace_reports::{Finding, Rendering, Verdict};
 use traces_for_tests::FailingReader;
+use tso_ops::Trace;
 
 /// The room that a text gets.
 const ROOM: usize = 4_096;
@@ -22,7 +23,7 @@ const ROOM: usize = 4_096;
 type Case = (&'static str, &'static str);
 
 /// Writes what a reader gives into these bytes: the answer, and how much of the room is left.
-fn written_into<H: Threads + Wait + Sync, R: Read, P: Rendering>(
+fn written_into<H: Threads + Wait + Sync, R: Read, P: Rendering<Trace, Finding>>(
     rt: &H,
     alloc: Global,
     reader: &mut R,
@@ -30,12 +31,13 @@ fn written_into<H: Threads + Wait + Sync, R: Read, P: Rendering>(
     rendering: &P,
 ) -> (Result<Verdict, Fault>, usize) {
     let mut writer = bytes;
-    let said = judge_with(rt, alloc, reader, &mut writer, 1, rendering);
+    let question = ByRules { workers: 1 };
+    let said = answer_reader(rt, alloc, reader, &mut writer, &question, rendering);
     (said, writer.len())
 }
 
 /// Compares what is written of a violation, written once more where an allocation was refused.
-fn expect_violation<H: Threads + Wait + Sync + Abort, P: Rendering>(
+fn expect_violation<H: Threads + Wait + Sync + Abort, P: Rendering<Trace, Finding>>(
     rt: &H,
     alloc: Global,
     (input, expected): Case,

@@ -12,7 +12,7 @@ use std::sync::Wait;
 use std::test::Fail;
 use std::thread::Threads;
 use text_streams::Fault;
-use trace_decisions::{AsDecision, DecisionLimits, decide_input, verify_texts};
+use trace_decisions::{AsDecision, ByDecision, decide_input, verify_texts};
 use trace_reports::Answer;
 use traces_for_tests::expect_equal;
 
@@ -31,10 +31,10 @@ fn evidence_of(text: &[u8]) -> &[u8] {
 }
 
 /// On how many workers, and with how many cases, it is decided.
-fn limits(workers: usize, effort: u64) -> DecisionLimits
+fn question(workers: usize, effort: u64) -> ByDecision
     ensures { result.workers ≡ workers }
 {
-    DecisionLimits { workers, effort }
+    ByDecision { workers, effort }
 }
 
 /// Decides on the trace that a reader has, and writes the text of the decision.
@@ -43,12 +43,12 @@ fn decided<H: Threads + Wait, R: Read, W: Write>(
     alloc: Global,
     reader: &mut R,
     writer: &mut W,
-    limits: DecisionLimits,
+    question: ByDecision,
 ) -> Result<Answer, Fault>
-    requires some { 1 ≤ limits.workers }
-    requires most { limits.workers ≤ worker_limit }
+    requires some { 1 ≤ question.workers }
+    requires most { question.workers ≤ worker_limit }
 {
-    decide_input(rt, alloc, reader, writer, limits, &AsDecision)
+    decide_input(rt, alloc, reader, writer, question, &AsDecision)
 }
 
 /// Decides on the trace of a text with so many workers, and compares what is answered; the evidence has to hold.
@@ -64,7 +64,7 @@ fn expect_decided<H: Threads + Wait>(
     let (text, answer) = case;
     let mut written = Vec::new(alloc);
     let mut reader = text.as_bytes();
-    let said = decided(rt, alloc, &mut reader, &mut written, limits(workers, 100));
+    let said = decided(rt, alloc, &mut reader, &mut written, question(workers, 100));
     expect_equal(text, said, Ok(answer))?;
     let mut line = Vec::new(alloc);
     let mut trace = text.as_bytes();

@@ -4,10 +4,10 @@ mod notes;
 mod progress;
 mod reports;
 
-use log_reports::report_log;
+use log_reports::{AsExplainedLog, AsLogLines, AsLogTraces, LogReporting, report_log};
 use progress_meters::NoMeter;
 use request_options::{LogForm, LogOptions};
-use std::io::{ErrorKind, Read};
+use std::io::{ErrorKind, Read, Write};
 use std::process::Abort;
 use std::sync::Wait;
 use std::thread::Threads;
@@ -47,10 +47,37 @@ fn expect<H: Threads + Wait + AllocGlobal + Abort, R: Read>(
 ) {
     let mut written = ShortWriter::new(rt.alloc(), room, Full::TakesNothing);
     let mut errors = ShortWriter::new(rt.alloc(), errors_room, Full::TakesNothing);
-    let given = report_log(rt, options, &NoMeter, reader, &mut written, &mut errors);
+    let given = write_report(rt, options, reader, &mut written, &mut errors);
     assert_eq!(rt; given, said, "{report}");
     assert_eq!(rt; written.taken.as_slice(), report.as_bytes());
     assert_eq!(rt; errors.taken.as_slice(), notes.as_bytes());
+}
+
+/// Reports on the log that a reader has, in the form that the options name.
+fn write_report<H: Threads + Wait + AllocGlobal, R: Read, W: Write, E: Write>(
+    rt: &H,
+    options: LogOptions,
+    reader: &mut R,
+    writer: &mut W,
+    errors: &mut E,
+) -> Result<Answer, Fault> {
+    match options.form {
+        LogForm::Lines => {
+            let rendering = &AsLogLines;
+            let reporting = LogReporting { options, rendering };
+            report_log(rt, &reporting, &NoMeter, reader, writer, errors)
+        }
+        LogForm::Explained => {
+            let rendering = &AsExplainedLog;
+            let reporting = LogReporting { options, rendering };
+            report_log(rt, &reporting, &NoMeter, reader, writer, errors)
+        }
+        LogForm::Traces => {
+            let rendering = &AsLogTraces;
+            let reporting = LogReporting { options, rendering };
+            report_log(rt, &reporting, &NoMeter, reader, writer, errors)
+        }
+    }
 }
 
 /// Room for all bytes.
@@ -116,7 +143,7 @@ fn reported_into<H: Threads + Wait + AllocGlobal>(
     let mut reader = MESSAGE_PASSING;
     let mut room = [0u8; ROOM];
     let mut errors = room.as_mut_slice();
-    let said = report_log(rt, LINES, &NoMeter, &mut reader, &mut writer, &mut errors);
+    let said = write_report(rt, LINES, &mut reader, &mut writer, &mut errors);
     (said, writer.len())
 }
 

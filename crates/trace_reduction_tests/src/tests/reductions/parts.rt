@@ -5,7 +5,7 @@ use std::alloc::Global;
 use std::sync::Wait;
 use std::test::Fail;
 use std::thread::Threads;
-use trace_judging::find_violation;
+use trace_judging::{ByRules, Question};
 use traces_for_tests::expect_equal;
 use tso_ops::{OutOfMemory, Outcome, Trace, ValueFault};
 use tso_text::read_trace;
@@ -98,7 +98,8 @@ fn is_violation_without<H: Threads + Wait>(
     left_out: LeftOut,
 ) -> Result<bool, Fail> {
     let fewer = without(alloc, trace, left_out)?;
-    Ok(find_violation(rt, alloc, &fewer, 1)?.certificate.is_some())
+    let finding = ByRules { workers: 1 }.find(rt, alloc, &fewer)?;
+    Ok(finding.certificate.is_some())
 }
 
 /// Judges the trace of a text without each of its operations: it is no violation.

@@ -1,5 +1,5 @@
 use Rattle.std.proofs.Common.{refl}
-use Rattle.tso_evidence.proofs.OutcomeFacts.{spelled_or_refused, not_both, one_value, one_refusal}
+use Rattle.tso_evidence.proofs.SpellingFacts.{spelled_or_refused, not_both, one_value, one_refusal}
 use Rattle.tso_evidence.proofs.laws.texts_of_evidence.Goals as goal
 
 pub returns : goal.returns

@@ -2,7 +2,7 @@ use Rattle.std.proofs.Common.{◌∙◌, rules, arith, map, subst, sym}
 use Rattle.std.proofs.lemmas.List.{length-map}
 use Rattle.std.specs.List.{list_any}
 use Rattle.tso_ops.specs.Values.{rows}
-use Rattle.tso_report.specs.Campaigns.{IsCampaign, LeavesCampaign, verdict_of}
+use Rattle.tso_report.specs.Campaigns.{IsCampaign, LeavesCampaign, verdict_on}
 use Rattle.tso_report.specs.Internal.Gathering.{AreKnown, text_by}
 use Rattle.text_streams.specs.Streams.{AppendsPrefix}
 use Rattle.text_streams.specs.WrittenTexts.{WritesPrefix}
@@ -36,7 +36,7 @@ returns-in_err-write_text-clause-fault g c =
     let units = map (λ unit. g.U.MemoryUnit.value_of unit) c.args.units.items in
     let count = sym (length-map c.args.units.items (λ unit. g.U.MemoryUnit.value_of unit)) in
     let text = text_by c.args.plan.printing c.args.plan.first c.in_ok-known.known.violations.items (rows c.in_ok-known.known.texts.items) in
-    let verdict = verdict_of (list_any (λ violation. violation) c.in_ok-known.known.violations.items) in
+    let verdict = verdict_on (list_any (λ violation. violation) c.in_ok-known.known.violations.items) in
     let known : AreKnown c.args.plan units c.in_ok-known.known.violations.items (rows c.in_ok-known.known.texts.items) =
     came-all c.args.plan units g.S.SeedUnits.unit_of c.in_ok-gathered.gathered c.in_ok-gathered-2.gathered c.in_ok-known.known.violations.items (rows c.in_ok-known.known.texts.items)
     (c.in_ok-gathered.ensures.0, (let made = c.in_ok-gathered.ensures.1 in let len = c.len.ensures in let items = c.args.units.ok.0 in omega (arith, made, len, items, count))) c.in_ok-gathered-2.ensures.seeds

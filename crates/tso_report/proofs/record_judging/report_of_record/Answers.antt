@@ -11,6 +11,6 @@ pub returns-clause-no_false_alarm : goal.returns-clause-no_false_alarm
 returns-clause-no_false_alarm g c = λ lawful.
     let text = string_bytes c.in_ok-report.report.text in
     let verdict = c.in_ok-report.report.verdict in
-    let rendered = subst (λ t. IsTraceReport t text verdict) c.trace.ensures.is c.in_ok-report.ensures.said in
-    let no_order = subst (λ t. verdict ≡ Violation → IsConsistent t → ⊥) c.trace.ensures.is c.in_ok-report.ensures.no_order in
+    let rendered = subst (λ t. IsTraceReport t text verdict) c.trace.ensures.is c.in_ok-report.ensures.rendered in
+    let no_order = subst (λ t. verdict ≡ Violation → IsConsistent t → ⊥) c.trace.ensures.is c.in_ok-report.ensures.says.no_order in
     consistent_verdict c.args.recorded.now.trace text verdict rendered no_order (lawful_consistent c.args.recorded.now c.trace.ensures.kept lawful)

@@ -8,7 +8,7 @@ use std::test::Fail;
 use std::thread::Threads;
 use traces_for_tests::{STORE_BUFFERING_WITH_BARRIERS, trace_of};
 use tso_ops::{Order, Trace};
-use tso_report::{AsReport, Verdict, judge_trace};
+use tso_report::{AsReport, ByRules, Verdict, answer_trace};
 
 /// Compares the report of a trace by so many workers, from 1 to 64.
 fn expect_report<H: Threads + Wait + Abort>(
@@ -18,7 +18,10 @@ fn expect_report<H: Threads + Wait + Abort>(
     workers: usize,
     (verdict, text): (Verdict, &str),
 ) -> Result<(), Fail> {
-    let report = judge_trace(rt, alloc, trace, workers.clamp(1, 64), &AsReport)?;
+    let question = ByRules {
+        workers: workers.clamp(1, 64),
+    };
+    let report = answer_trace(rt, alloc, trace, &question, &AsReport)?;
     assert_eq!(rt; report.verdict, verdict, "{workers}");
     expect_bytes(rt, text, report.text.as_bytes(), text.as_bytes());
     Ok(())

@@ -7,7 +7,7 @@ use refutation_check::check_refutation;
 use std::alloc::{AllocError, Global};
 use std::test::Fail;
 use traces_for_tests::{expect_equal, store_buffering};
-use tso_evidence::{Evidence, TextFault, read_evidence};
+use tso_evidence::{Evidence, EvidenceTextFault, read_evidence};
 use tso_ops::{Trace, ValueFault};
 use tso_text::read_trace;
 
@@ -26,7 +26,7 @@ fn made_trace(alloc: Global) -> Result<Trace, tso_text::TextFault> {
 }
 
 /// The refutation, read once more where an allocation was refused.
-fn made_refutation(alloc: Global) -> Result<Evidence, TextFault> {
+fn made_refutation(alloc: Global) -> Result<Evidence, EvidenceTextFault> {
     match read_evidence(alloc, REFUTATION.as_bytes()) {
         Ok(evidence) => Ok(evidence),
         Err(_) => read_evidence(alloc, REFUTATION.as_bytes()),

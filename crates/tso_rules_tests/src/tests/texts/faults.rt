@@ -27,13 +27,13 @@ static TEXT_FAULTS: [(Why, &str); 16] = [
     (Why::InitOrder, "InitOrder"),
 ];
 
-static CERTIFICATE_FAULTS: [(tso_cert::Why, &str); 6] = [
-    (tso_cert::Why::BadLine, "BadLine"),
-    (tso_cert::Why::BadNumber, "BadNumber"),
-    (tso_cert::Why::BadRule, "BadRule"),
-    (tso_cert::Why::NoCycle, "NoCycle"),
-    (tso_cert::Why::AfterCycle, "AfterCycle"),
-    (tso_cert::Why::OutOfMemory, "OutOfMemory"),
+static CERTIFICATE_FAULTS: [(tso_cert::CertificateRefusal, &str); 6] = [
+    (tso_cert::CertificateRefusal::BadLine, "BadLine"),
+    (tso_cert::CertificateRefusal::BadNumber, "BadNumber"),
+    (tso_cert::CertificateRefusal::BadRule, "BadRule"),
+    (tso_cert::CertificateRefusal::NoCycle, "NoCycle"),
+    (tso_cert::CertificateRefusal::AfterCycle, "AfterCycle"),
+    (tso_cert::CertificateRefusal::OutOfMemory, "OutOfMemory"),
 ];
 
 static EVIDENCE_FAULTS: [(EvidenceFault, &str); 5] = [

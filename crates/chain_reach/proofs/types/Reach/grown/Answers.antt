@@ -1,6 +1,6 @@
-use Rattle.chain_reach.specs.Leading.{HasGrown}
+use Rattle.chain_reach.specs.Leading.{LeadsToMore}
 use Rattle.chain_reach.proofs.types.Reach.grown.Goals as goal
 
 pub returns : goal.returns
-unfolding HasGrown
+unfolding LeadsToMore
 returns c = rw c.deref.ensures.value at c.marked.ensures

@@ -1,13 +1,13 @@
 use Rattle.std.proofs.Common.{◌≡◌, inl, inr, length, take, drop, ◌++◌, refl, sym, ap, ◌∙◌, arith}
 use Rattle.std.proofs.lemmas.List.{take_at}
-use Rattle.chain_reach.specs.Leading.{Leads, HasGrown}
+use Rattle.chain_reach.specs.Leading.{Leads, LeadsToMore}
 use Rattle.chain_reach.specs.Internal.FirstTables.{LeadsBy}
 use Rattle.chain_reach.proofs.ClosureFacts.{Closes-same}
 use Rattle.chain_reach.proofs.JoinFacts.{joined_tables, groups_within}
 use Rattle.chain_reach.proofs.types.Reach.join.Goals as goal
 
 pub returns-then-leads : goal.returns-then-leads
-unfolding Leads HasGrown
+unfolding Leads LeadsToMore
 returns-then-leads c =
     let g = c.args.self.now in
     let keys = g.chains.keys.items in
@@ -47,7 +47,7 @@ invariant_of-self c =
     record { near_sized = ap length (sym near_is) ∙ (near_same ∙ g.near_sized); kept = tables.keeps }
 
 pub returns : goal.returns
-unfolding Leads HasGrown
+unfolding Leads LeadsToMore
 returns c =
     let g = c.args.self.now in
     let keys = g.chains.keys.items in

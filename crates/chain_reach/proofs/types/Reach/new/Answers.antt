@@ -1,5 +1,5 @@
 use Rattle.std.proofs.Common.{◌≡◌, ◌+◌, ◌*◌, ◌/◌, ◌<◌, length, get_or, set, sym, ap, subst, ◌∙◌, arith}
-use Rattle.chain_reach.specs.Leading.{Leads, HasGrown}
+use Rattle.chain_reach.specs.Leading.{Leads, LeadsToMore}
 use Rattle.chain_reach.proofs.JoinFacts.{groups_within}
 use Rattle.chain_reach.proofs.TableFacts.{Begun, Begun-step, Begun-leads, Begun-keeps, none_marked}
 use Rattle.chain_reach.proofs.types.Reach.new.Goals as goal
@@ -40,5 +40,5 @@ returns-clause-leads c =
     (groups_within c.args.chains.keys.items c.args.chains.lists.items (λ list. list.items) c.args.chains.grouped)
 
 pub returns-clause-settled : goal.returns-clause-settled
-unfolding HasGrown
+unfolding LeadsToMore
 returns-clause-settled c = λ x is. none_marked c.in_ok-grown.grown.items _ x (c.in_ok-grown.ensures.items_if_clones_equal (λ y e. e)) is

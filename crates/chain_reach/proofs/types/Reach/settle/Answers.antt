@@ -1,5 +1,5 @@
 use Rattle.std.proofs.Common.{arith}
-use Rattle.chain_reach.specs.Leading.{Leads, HasGrown}
+use Rattle.chain_reach.specs.Leading.{Leads, LeadsToMore}
 use Rattle.chain_reach.proofs.TableFacts.{none_marked}
 use Rattle.chain_reach.proofs.types.Reach.settle.Goals as goal
 
@@ -8,7 +8,7 @@ unfolding Leads
 returns-clause-leads c = λ x y. (λ leads. leads, λ leads. leads)
 
 pub returns-clause-settled : goal.returns-clause-settled
-unfolding HasGrown
+unfolding LeadsToMore
 returns-clause-settled c = λ x is. none_marked c.fill.new.self.items _ x (c.fill.ensures.items (λ y e. e)) is
 
 pub invariant_of-self : goal.invariant_of-self

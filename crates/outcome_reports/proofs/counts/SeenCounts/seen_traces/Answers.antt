@@ -5,5 +5,5 @@ use Rattle.outcome_reports.proofs.CountFacts.{seen_count_from}
 use Rattle.outcome_reports.proofs.counts.SeenCounts.seen_traces.Goals as goal
 
 pub returns : goal.returns
-returns c = λ sightings counts.
-    c.count_some.ensures ∙ ap (λ (cs : List ℕ). count_by (λ count. nat_lt 0 count) cs) c.deref.ensures.value ∙ seen_count_from c.args.self.now.seen.items sightings counts.seen
+returns c = λ classes counts.
+    c.count_some.ensures ∙ ap (λ (cs : List ℕ). count_by (λ count. nat_lt 0 count) cs) c.deref.ensures.value ∙ seen_count_from c.args.self.now.seen.items classes counts.seen

@@ -33,9 +33,9 @@ loop-i-preserved g c =
     let next = next_judged g.R.Read.remaining _ _ _ _ c.loop-i.batch _ _ _ _ _ _ c.args.reader.now c.loop-i.reader _ (files_in (take i texts)) refl c.loop-i.invariant
     (option_map (λ f. f.now) file) (files_in (drop (i + 1) texts)) few c.judge.new.batch _ _ _ c.judge.new.reader _ _ c.text_at-text.ensures.name c.in_ok-judge.ensures.judged c.judge.ensures.same
     c.judge.ensures.opened (of_file _ file c.judge.ensures.unread) (λ e. c.in_ok-judge.ensures.taken (no_file file e)) in
-    subst (λ fs. AreJudged g.R.Read.remaining c.are_several-several.result (g.R.Read.remaining c.args.reader.now) (g.O.Surroundings.bytes c.args.files.now) c.args.request.now.printing c.judge.new.batch
-    (g.W.Write.contents c.args.writer.now) (g.W.Write.contents c.judge.new.writer) (g.E.Write.contents c.args.errors.now) (g.E.Write.contents c.judge.new.errors) (g.O.Surroundings.opened c.args.files.now)
-    (g.O.Surroundings.opened c.judge.new.files) c.args.reader.now c.judge.new.reader (g.O.Surroundings.bytes c.judge.new.files) fs) (sym (files_more texts i file inside at)) next
+    subst (λ fs. AreJudged g.R.Read.remaining c.are_several-several.result (g.R.Read.remaining c.args.reader.now) (g.O.Environment.bytes c.args.files.now) c.args.request.now.printing c.judge.new.batch
+    (g.W.Write.contents c.args.writer.now) (g.W.Write.contents c.judge.new.writer) (g.E.Write.contents c.args.errors.now) (g.E.Write.contents c.judge.new.errors) (g.O.Environment.opened c.args.files.now)
+    (g.O.Environment.opened c.judge.new.files) c.args.reader.now c.judge.new.reader (g.O.Environment.bytes c.judge.new.files) fs) (sym (files_more texts i file inside at)) next
 
 pub returns-in_err-judge-clause-left : goal.returns-in_err-judge-clause-left
 returns-in_err-judge-clause-left g c =
@@ -47,7 +47,7 @@ returns-in_err-judge-clause-left g c =
     let few = subst (λ fs. count_by is_none fs ≤ 1) at c.requires.input in
     let left = next_left g.R.Read.remaining _ _ _ _ c.loop-i.batch _ _ _ _ _ _ c.args.reader.now c.loop-i.reader _ (files_in (take i texts)) refl c.loop-i.invariant
     (option_map (λ f. f.now) file) (files_in (drop (i + 1) texts)) few _ _ _ c.text_at-text.ensures.name c.in_err-judge.ensures.left in
-    whatever c.from_residual-in_err-judge.result (of_all _ (g.R.Read.remaining c.args.reader.now) (g.O.Surroundings.bytes c.args.files.now)
+    whatever c.from_residual-in_err-judge.result (of_all _ (g.R.Read.remaining c.args.reader.now) (g.O.Environment.bytes c.args.files.now)
     (λ ts. LeavesBatch c.args.request.now.printing ts (g.W.Write.contents c.args.writer.now) (g.W.Write.contents c.judge.new.writer) (g.E.Write.contents c.args.errors.now) (g.E.Write.contents c.judge.new.errors))
     _ _ (subst (λ ts. c.are_several-several.result ≡ are_several (files_in ts)) c.as_slice-texts.ensures.value c.are_several-several.ensures) at left)
 
@@ -58,7 +58,7 @@ returns-in_err-judge-clause-first g c =
     let file = c.text_at-text.result.file in
     let inside = subst (λ ts. i < length ts) c.as_slice-texts.ensures.value c.loop-i-test.true in
     let at = files_at texts i file inside (subst (λ ts. file ≡ get_or ts i file) c.as_slice-texts.ensures.value (c.text_at-text.ensures.file file)) in
-    subst (λ fs. OpensFirst (g.O.Surroundings.opened c.args.files.now) (g.O.Surroundings.opened c.judge.new.files) (filter_map (λ f. f) fs)) (sym at)
+    subst (λ fs. OpensFirst (g.O.Environment.opened c.args.files.now) (g.O.Environment.opened c.judge.new.files) (filter_map (λ f. f) fs)) (sym at)
     (first_opened _ _ _ (files_in (take i texts)) (option_map (λ f. f.now) file) (files_in (drop (i + 1) texts)) c.loop-i.invariant.opens c.judge.ensures.opened)
 
 pub returns-in_err-judge-clause-unread : goal.returns-in_err-judge-clause-unread
@@ -73,16 +73,16 @@ returns-in_err-judge-clause-unread g c = λ all.
 
 pub returns-clause-judged : goal.returns-clause-judged
 returns-clause-judged g c =
-    of_all _ (g.R.Read.remaining c.args.reader.now) (g.O.Surroundings.bytes c.args.files.now)
+    of_all _ (g.R.Read.remaining c.args.reader.now) (g.O.Environment.bytes c.args.files.now)
     (λ ts. HasWritten c.loop-i.batch c.args.request.now.printing ts (g.W.Write.contents c.args.writer.now) (g.W.Write.contents c.loop-i.writer) (g.E.Write.contents c.args.errors.now) (g.E.Write.contents c.loop-i.errors))
     _ _ (subst (λ ts. c.are_several-several.result ≡ are_several (files_in ts)) c.as_slice-texts.ensures.value c.are_several-several.ensures) (sym (ap files_in (take_all c.loop-i.i c.args.request.now.texts.items (subst (λ ts. length ts ≤ c.loop-i.i) c.as_slice-texts.ensures.value c.loop-i-test.false)))) c.loop-i.invariant.each
 
 pub returns-clause-first : goal.returns-clause-first
-returns-clause-first g c = opens_all _ _ _ (subst (λ fs. OpensNext (g.O.Surroundings.opened c.args.files.now) (g.O.Surroundings.opened c.loop-i.files) (filter_map (λ f. f) fs))
+returns-clause-first g c = opens_all _ _ _ (subst (λ fs. OpensNext (g.O.Environment.opened c.args.files.now) (g.O.Environment.opened c.loop-i.files) (filter_map (λ f. f) fs))
     (ap files_in (take_all c.loop-i.i c.args.request.now.texts.items (subst (λ ts. length ts ≤ c.loop-i.i) c.as_slice-texts.ensures.value c.loop-i-test.false))) c.loop-i.invariant.opens)
 
 pub returns-clause-opened : goal.returns-clause-opened
-returns-clause-opened g c = subst (λ fs. OpensNext (g.O.Surroundings.opened c.args.files.now) (g.O.Surroundings.opened c.loop-i.files) (filter_map (λ f. f) fs))
+returns-clause-opened g c = subst (λ fs. OpensNext (g.O.Environment.opened c.args.files.now) (g.O.Environment.opened c.loop-i.files) (filter_map (λ f. f) fs))
     (ap files_in (take_all c.loop-i.i c.args.request.now.texts.items (subst (λ ts. length ts ≤ c.loop-i.i) c.as_slice-texts.ensures.value c.loop-i-test.false))) c.loop-i.invariant.opens
 
 pub returns-clause-unread : goal.returns-clause-unread

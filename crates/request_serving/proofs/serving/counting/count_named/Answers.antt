@@ -16,12 +16,12 @@ returns-in_ok-stream-in-Files-clause-fault g c =
 
 pub returns-in_ok-stream-in-Files-clause-first : goal.returns-in_ok-stream-in-Files-clause-first
 returns-in_ok-stream-in-Files-clause-first g c =
-    rw c.in-Files.is (opens_all _ _ _ (opens_both (g.O.Surroundings.opened c.args.files.now) (g.O.Surroundings.opened c.open.new.files) (g.O.Surroundings.opened c.open-in-Files.new.files) c.in-Files.program.now c.in-Files.stream.now
+    rw c.in-Files.is (opens_all _ _ _ (opens_both (g.O.Environment.opened c.args.files.now) (g.O.Environment.opened c.open.new.files) (g.O.Environment.opened c.open-in-Files.new.files) c.in-Files.program.now c.in-Files.stream.now
     c.in_ok-program-in-Files.ensures.opened c.in_ok-stream-in-Files.ensures.opened))
 
 pub returns-in_err-stream-in-Files-clause-first : goal.returns-in_err-stream-in-Files-clause-first
 returns-in_err-stream-in-Files-clause-first g c =
-    rw c.in-Files.is (opens_all _ _ _ (opens_both (g.O.Surroundings.opened c.args.files.now) (g.O.Surroundings.opened c.open.new.files) (g.O.Surroundings.opened c.open-in-Files.new.files) c.in-Files.program.now c.in-Files.stream.now
+    rw c.in-Files.is (opens_all _ _ _ (opens_both (g.O.Environment.opened c.args.files.now) (g.O.Environment.opened c.open.new.files) (g.O.Environment.opened c.open-in-Files.new.files) c.in-Files.program.now c.in-Files.stream.now
     c.in_ok-program-in-Files.ensures.opened c.in_err-stream-in-Files.ensures.opened))
 
 pub returns-in_ok-stream-in-InputAndFile-clause-whole : goal.returns-in_ok-stream-in-InputAndFile-clause-whole
@@ -50,5 +50,5 @@ returns-in_ok-program-in-FileAndInput-clause-first g c = rw c.in-FileAndInput.is
 
 pub returns-in_ok-stream-in-Files-clause-opened : goal.returns-in_ok-stream-in-Files-clause-opened
 returns-in_ok-stream-in-Files-clause-opened g c =
-    rw c.in-Files.is (holds_ok c.count_seen.result _ (opens_both (g.O.Surroundings.opened c.args.files.now) (g.O.Surroundings.opened c.open.new.files) (g.O.Surroundings.opened c.open-in-Files.new.files) c.in-Files.program.now c.in-Files.stream.now
+    rw c.in-Files.is (holds_ok c.count_seen.result _ (opens_both (g.O.Environment.opened c.args.files.now) (g.O.Environment.opened c.open.new.files) (g.O.Environment.opened c.open-in-Files.new.files) c.in-Files.program.now c.in-Files.stream.now
     c.in_ok-program-in-Files.ensures.opened c.in_ok-stream-in-Files.ensures.opened))

@@ -4,10 +4,10 @@ use Rattle.request_serving.proofs.serving.logging.log_named.Goals as goal
 
 pub returns-in_ok-file-in-Some-clause-whole : goal.returns-in_ok-file-in-Some-clause-whole
 returns-in_ok-file-in-Some-clause-whole g c =
-    let read = c.report_log-in-Some in
-    rw c.in-Some.is (writes_as _ _ (logged_of_known c.args.request.now.options _ _ c.in_ok-file-in-Some.ensures.known) _ _ read.result read.ensures.report)
+    let read = c.log_reader-in-Some in
+    rw c.in-Some.is (writes_as _ _ (logged_of_known c.args.request.now.options _ _ c.in_ok-file-in-Some.ensures.known) _ _ read.result read.ensures.whole)
 
 pub returns-in_ok-file-in-Some-clause-left : goal.returns-in_ok-file-in-Some-clause-left
 returns-in_ok-file-in-Some-clause-left g c =
-    let read = c.report_log-in-Some in
+    let read = c.log_reader-in-Some in
     rw c.in-Some.is (faults_as _ _ (logged_of_known c.args.request.now.options _ _ c.in_ok-file-in-Some.ensures.known) _ _ read.result read.ensures.left)

@@ -15,12 +15,12 @@ returns-in_ok-evidence-in-Files-clause-fault g c =
 
 pub returns-in_ok-evidence-in-Files-clause-first : goal.returns-in_ok-evidence-in-Files-clause-first
 returns-in_ok-evidence-in-Files-clause-first g c =
-    rw c.in-Files.is (opens_all _ _ _ (opens_both (g.O.Surroundings.opened c.args.files.now) (g.O.Surroundings.opened c.open.new.files) (g.O.Surroundings.opened c.open-in-Files.new.files) c.in-Files.trace.now c.in-Files.evidence.now
+    rw c.in-Files.is (opens_all _ _ _ (opens_both (g.O.Environment.opened c.args.files.now) (g.O.Environment.opened c.open.new.files) (g.O.Environment.opened c.open-in-Files.new.files) c.in-Files.trace.now c.in-Files.evidence.now
     c.in_ok-trace-in-Files.ensures.opened c.in_ok-evidence-in-Files.ensures.opened))
 
 pub returns-in_err-evidence-in-Files-clause-first : goal.returns-in_err-evidence-in-Files-clause-first
 returns-in_err-evidence-in-Files-clause-first g c =
-    rw c.in-Files.is (opens_all _ _ _ (opens_both (g.O.Surroundings.opened c.args.files.now) (g.O.Surroundings.opened c.open.new.files) (g.O.Surroundings.opened c.open-in-Files.new.files) c.in-Files.trace.now c.in-Files.evidence.now
+    rw c.in-Files.is (opens_all _ _ _ (opens_both (g.O.Environment.opened c.args.files.now) (g.O.Environment.opened c.open.new.files) (g.O.Environment.opened c.open-in-Files.new.files) c.in-Files.trace.now c.in-Files.evidence.now
     c.in_ok-trace-in-Files.ensures.opened c.in_err-evidence-in-Files.ensures.opened))
 
 pub returns-in_ok-evidence-in-InputAndFile-clause-report : goal.returns-in_ok-evidence-in-InputAndFile-clause-report

@@ -1,7 +1,7 @@
 use Rattle.std.proofs.Common.{◌∙◌, Err, Ok, Result, ap₂, refl}
 use Rattle.std.specs.Prelude.{OnOk}
 use Rattle.trace_batches.specs.BatchLines.{unread_line}
-use Rattle.trace_batches.specs.Batches.{unread_text}
+use Rattle.trace_batches.specs.Batches.{unreadable_text}
 use Rattle.trace_batches.proofs.WholeFacts.{left_out, left_out_some, none_of_text, whatever}
 use Rattle.trace_batches.proofs.begun.Batch.leave_out.Goals as goal
 
@@ -12,11 +12,11 @@ on_ok_both (Err e) both first second = tt
 
 pub returns-in_err-label-clause-left : goal.returns-in_err-label-clause-left
 returns-in_err-label-clause-left g c =
-    whatever c.from_residual.result (none_of_text (unread_text _) c.args.self.now (g.W.Write.contents c.args.writer.now) (g.E.Write.contents c.args.errors.now))
+    whatever c.from_residual.result (none_of_text (unreadable_text _) c.args.self.now (g.W.Write.contents c.args.writer.now) (g.E.Write.contents c.args.errors.now))
 
 pub returns-in_err-line-clause-left : goal.returns-in_err-line-clause-left
 returns-in_err-line-clause-left g c =
-    whatever c.from_residual-in_err-line.result (none_of_text (unread_text _) c.args.self.now (g.W.Write.contents c.args.writer.now) (g.E.Write.contents c.args.errors.now))
+    whatever c.from_residual-in_err-line.result (none_of_text (unreadable_text _) c.args.self.now (g.W.Write.contents c.args.writer.now) (g.E.Write.contents c.args.errors.now))
 
 pub returns-clause-judged : goal.returns-clause-judged
 returns-clause-judged g c =

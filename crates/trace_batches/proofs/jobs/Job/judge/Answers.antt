@@ -5,4 +5,4 @@ use Rattle.trace_batches.proofs.jobs.Job.judge.Goals as goal
 
 pub returns : goal.returns
 returns g c =
-    (refl, subst (λ piece. IsOutcome c.args.question piece c.judge_piece.result) c.deref.ensures.value (outcome_of c.args.question c.deref.result.now c.judge_piece.result c.judge_piece.ensures.said c.judge_piece.ensures.fault))
+    (refl, subst (λ piece. IsOutcome c.args.question piece c.judge_trace_text.result) c.deref.ensures.value (outcome_of c.args.question c.deref.result.now c.judge_trace_text.result c.judge_trace_text.ensures.said c.judge_trace_text.ensures.fault))

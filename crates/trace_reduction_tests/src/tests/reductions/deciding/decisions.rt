@@ -1,6 +1,6 @@
 //! Decisions.
 
-use super::{decided, expect_decided, limits};
+use super::{decided, expect_decided, question};
 use evidence_for_tests::{BUFFERING, THIRTY_EVENTS, TWELVE_EVENTS};
 use std::alloc::Global;
 use std::sync::Wait;
@@ -84,7 +84,7 @@ fn expect_text<H: Threads + Wait>(
 ) -> Result<(), Fail> {
     let mut written = Vec::new(alloc);
     let mut reader = trace.as_bytes();
-    let said = decided(rt, alloc, &mut reader, &mut written, limits(1, effort));
+    let said = decided(rt, alloc, &mut reader, &mut written, question(1, effort));
     expect_equal(effort, said, Ok(answer))?;
     expect_equal(effort, written.as_slice(), text.as_bytes())
 }

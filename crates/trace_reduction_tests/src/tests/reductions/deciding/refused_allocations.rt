@@ -2,7 +2,7 @@
 //!
 //! The call that meets it answers OutOfMemory and wrote nothing; the next call writes the whole text.
 
-use super::{decided, limits};
+use super::{decided, question};
 use evidence_for_tests::{BUFFERING, BUFFERING_ORDER, TWELVE_EVENTS, TWELVE_REFUTED};
 use std::alloc::Global;
 use std::sync::Wait;
@@ -27,7 +27,7 @@ fn decided_into<H: Threads + Wait>(
 ) -> (Result<Answer, Fault>, usize) {
     let mut writer = bytes.as_mut_slice();
     let mut reader = TWELVE_EVENTS.as_bytes();
-    let said = decided(rt, alloc, &mut reader, &mut writer, limits(1, 1));
+    let said = decided(rt, alloc, &mut reader, &mut writer, question(1, 1));
     (said, writer.len())
 }
 

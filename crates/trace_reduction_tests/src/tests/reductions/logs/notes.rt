@@ -1,8 +1,6 @@
 //! Long logs of which something is left out, and what is noted then.
 
-use super::LINES;
-use log_reports::report_log;
-use progress_meters::NoMeter;
+use super::{LINES, write_report};
 use std::alloc::{AllocError, Global};
 use std::fmt::Write;
 use std::process::Abort;
@@ -21,7 +19,7 @@ fn expect_notes<H: Threads + Wait + AllocGlobal + Abort>(
     let mut written = Vec::new(rt.alloc());
     let mut errors = Vec::new(rt.alloc());
     let mut reader = log.as_bytes();
-    let said = report_log(rt, LINES, &NoMeter, &mut reader, &mut written, &mut errors);
+    let said = write_report(rt, LINES, &mut reader, &mut written, &mut errors);
     assert!(rt; said == Ok(verdict), "{notes}");
     assert!(rt; errors.as_slice() == notes.as_bytes(), "{notes}");
 }

@@ -2,7 +2,7 @@
 
 use super::LINES;
 use super::notes::stores;
-use log_reports::report_log;
+use log_reports::{AsLogLines, LogReporting, report_log};
 use progress_meters::{Meter, TotalMeter};
 use std::cell::Cell;
 use std::process::Abort;
@@ -44,7 +44,18 @@ fn expect_passed<H: Threads + Wait + AllocGlobal + Abort>(
         expected: Cell::new(0),
         passed: Cell::new(0),
     };
-    let said = report_log(rt, LINES, &meter, &mut reader, &mut written, &mut errors);
+    let reporting = LogReporting {
+        options: LINES,
+        rendering: &AsLogLines,
+    };
+    let said = report_log(
+        rt,
+        &reporting,
+        &meter,
+        &mut reader,
+        &mut written,
+        &mut errors,
+    );
     assert!(rt; said == Ok(verdict), "{log}");
     assert!(rt; meter.expected.get() == operations, "{log}");
     assert!(rt; meter.passed.get() == operations, "{log}");

@@ -1,5 +1,5 @@
 use Rattle.std.proofs.Common.{◌≡◌, ◌-◌, ◌≤◌, length}
-use Rattle.round_pool.specs.Claims.{rows_of, places_of, tried_by, claimant_parts, IsOf}
+use Rattle.round_pool.specs.Claims.{rows_to_claim, places_of, tried_by, claimant_parts, IsOf}
 use Rattle.round_pool.proofs.claims.types.Claims.claim.Given as goal
 
 -- places that others have claimed were tried
@@ -9,4 +9,4 @@ invariant-loop-claimant l =
     × (tried_by l.initial.claimant ≤ tried_by l.claimant)
 
 abbrev pub decreases-loop-claimant : goal.decreases-loop-claimant
-decreases-loop-claimant l = length (rows_of l.self) - tried_by l.claimant
+decreases-loop-claimant l = length (rows_to_claim l.self) - tried_by l.claimant

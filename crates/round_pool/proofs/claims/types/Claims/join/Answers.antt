@@ -2,7 +2,7 @@ use Rattle.std.proofs.Common.{◌≡◌, ◌<◌, ◌++◌, ◌∙◌, ℕ, leng
 use Rattle.std.proofs.lemmas.List.Elements.{All-append}
 use Rattle.atomic_table.specs.Table.{Me}
 use Rattle.round_pool.specs.declared.claims.seat_view.SeatView.{SeatView}
-use Rattle.round_pool.specs.Claims.{rows_of, places_of}
+use Rattle.round_pool.specs.Claims.{rows_to_claim, places_of}
 use Rattle.round_pool.proofs.ClaimFacts.{joins, looks_at, distinct_rows}
 use Rattle.round_pool.proofs.claims.types.Claims.join.Goals as goal
 
@@ -35,9 +35,9 @@ returns-clause-once c =
     let from = places_of c.args.from in
     let joined : c.load.new.seat.me.0.places ≡ into ++ from =
     ap (λ (me : Me (Unit {0}) SeatView). me.0.places) c.load.ensures.2.0 ∙ ap (λ (me : Me (Unit {0}) SeatView). me.0.places) c.join_seat.ensures.2 in
-    let below : ℕ → Type 0 = λ place. place < length (rows_of claims) in
+    let below : ℕ → Type 0 = λ place. place < length (rows_to_claim claims) in
     let within = subst (All below) (sym joined) (All-append below into from c.requires.into.places c.requires.from.places) in
-    distinct_rows (rows_of claims) c.load.new.seat.me.0.places claims.ascending within c.load.ensures.2.1.0
+    distinct_rows (rows_to_claim claims) c.load.new.seat.me.0.places claims.ascending within c.load.ensures.2.1.0
 
 pub returns-clause-all : goal.returns-clause-all
 returns-clause-all c = λ parts all place inside.
