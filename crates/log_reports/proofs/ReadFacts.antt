@@ -16,7 +16,7 @@ use Rattle.log_reports.specs.declared.reports.LogReport.{LogReport}
 use Rattle.trace_reports.specs.declared.answers.Answer.{Answer}
 use Rattle.trace_reports.specs.declared.answers.Answer.TheVariants.{Clear, Refused, Violation}
 use Rattle.trace_reports.specs.Renderings.{RendersRefusal}
-use Rattle.log_reports.specs.LogReports.{IsLogReport, IsLogReportOfReader, IsReportOf, SaidOfLog}
+use Rattle.log_reports.specs.LogReports.{IsLogReport, IsLogReportOfReader, IsReportOf, RendersLog}
 use Rattle.log_reports.proofs.ViolationFacts.{report_violation, report_written}
 
 -- ---- what is read
@@ -50,7 +50,7 @@ of_reader : (Is : List ℕ → Type 0) (remaining : Option (List ℕ)) (bytes : 
 of_reader Is None bytes all holds = record { bytes = bytes; of_read = holds; of_all = tt }
 of_reader Is (Some whole) bytes all holds = record { bytes = bytes; of_read = holds; of_all = subst Is all holds }
 
-module _ (said : SaidOfLog) (refused : RendersRefusal) (options : LogOptions) (remaining : Option (List ℕ)) (text bytes : List ℕ) (all : IfSome remaining (λ l. bytes ≡ l)) (same : text ≡ bytes) where
+module _ (said : RendersLog) (refused : RendersRefusal) (options : LogOptions) (remaining : Option (List ℕ)) (text bytes : List ℕ) (all : IfSome remaining (λ l. bytes ≡ l)) (same : text ≡ bytes) where
   -- the report on a log that was read
   pub log_said : (log : NumberedLog) (outcome : Result LogReport Fault) → SpellsLog text log → IsEndedAsNeeded options.needs_end text → IfOk outcome (λ r. IsReportOf said log options (string_bytes r.text) r.verdict) →
       IfOk outcome (λ r. IsLogReportOfReader said refused options remaining (string_bytes r.text) r.verdict)
@@ -68,7 +68,7 @@ module _ (said : SaidOfLog) (refused : RendersRefusal) (options : LogOptions) (r
         gives = gives;
       }))
 
-module _ (said : SaidOfLog) (refused : RendersRefusal) (options : LogOptions) where
+module _ (said : RendersLog) (refused : RendersRefusal) (options : LogOptions) where
   -- a log on which the report is a violation has no order
   pub reader_violation : (remaining : Option (List ℕ)) (text : List ℕ) (verdict : Answer) → IsLogReportOfReader said refused options remaining text verdict → verdict ≡ Violation →
       IfSome remaining (λ all. (log : NumberedLog) → SpellsLog all log → IsConsistent (log_operations log) → ⊥)

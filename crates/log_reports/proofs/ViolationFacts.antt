@@ -22,7 +22,7 @@ use Rattle.trace_reports.specs.declared.answers.Answer.TheVariants.{Clear, Undec
 use Rattle.log_reports.specs.Findings.{AreFindings, AreWrittenIn, IsListed}
 use Rattle.trace_reports.specs.Renderings.{RendersRefusal}
 use Rattle.log_reports.specs.LogCounts.{is_nothing_judged, is_too_unknown}
-use Rattle.log_reports.specs.LogReports.{IsLogReport, SaidOfLog, found_in, is_all_judged, verdict_of}
+use Rattle.log_reports.specs.LogReports.{IsLogReport, RendersLog, found_in, is_all_judged, verdict_of}
 
 module _ (log : NumberedLog) (shown : List Shown) (t : TraceValue) (selected : IsSelected log shown t) (violation : IsViolation t) where
   no_order : IsConsistent t → ⊥
@@ -66,7 +66,7 @@ found_none log found written is =
     let (none, all_judged) = none_listed findings.violations.items (is_all_judged found) is in
     written none (all_judged_written findings.is_early (not (is_empty findings.unjudged.items)) findings.has_unlisted (is_nothing_judged found.counts) (is_too_unknown found.options.max_unknown found.counts) all_judged)
 
-pub report_written : (said : SaidOfLog) (refused : RendersRefusal) (options : LogOptions) (bytes text : List ℕ) → IsLogReport said refused options bytes text Clear → (log : NumberedLog) → SpellsLog bytes log → (l : ℕ) → IsUnwritten (log_operations log) l → ⊥
+pub report_written : (said : RendersLog) (refused : RendersRefusal) (options : LogOptions) (bytes text : List ℕ) → IsLogReport said refused options bytes text Clear → (log : NumberedLog) → SpellsLog bytes log → (l : ℕ) → IsUnwritten (log_operations log) l → ⊥
 report_written said refused options bytes text is log spelled =
     ⊎_elim
     (λ of_log. subst (λ (other : NumberedLog). (l : ℕ) → IsUnwritten (log_operations other) l → ⊥) (one_log bytes of_log.0 log of_log.1 spelled) (found_none of_log.0 (found_in of_log.0 options of_log.3.unknown of_log.3.findings) of_log.3.written (sym of_log.3.gives)))
@@ -76,7 +76,7 @@ report_written said refused options bytes text is log spelled =
     differ : Clear ≡ Refused → ⊥
     differ same = cc
 
-pub report_violation : (said : SaidOfLog) (refused : RendersRefusal) (options : LogOptions) (bytes text : List ℕ) → IsLogReport said refused options bytes text Violation → (log : NumberedLog) → SpellsLog bytes log → IsConsistent (log_operations log) → ⊥
+pub report_violation : (said : RendersLog) (refused : RendersRefusal) (options : LogOptions) (bytes text : List ℕ) → IsLogReport said refused options bytes text Violation → (log : NumberedLog) → SpellsLog bytes log → IsConsistent (log_operations log) → ⊥
 report_violation said refused options bytes text is log spelled =
     ⊎_elim
     (λ of_log. subst (λ (other : NumberedLog). IsConsistent (log_operations other) → ⊥) (one_log bytes of_log.0 log of_log.1 spelled) (found_violation of_log.0 (found_in of_log.0 options of_log.3.unknown of_log.3.findings) of_log.3.found (sym of_log.3.gives)))

@@ -25,16 +25,16 @@ is_all_judged found =
 abbrev pub verdict_of : LogFound → Answer
 verdict_of found = cond (is_empty found.findings.violations.items) (cond (is_all_judged found) Clear Undecided) Violation
 
--- what is said of a log by what was found in it
-abbrev pub SaidOfLog : Type 0
-SaidOfLog = NumberedLog → LogFound → List ℕ
+-- what is rendered of a log by what was found in it
+abbrev pub RendersLog : Type 0
+RendersLog = NumberedLog → LogFound → List ℕ
 
 -- what was found in the log, of the loads of which so many have a source that the values don't tell
 abbrev pub found_in : NumberedLog → LogOptions → ℕ → LogFindings → LogFound
 found_in log options unknown findings = record { options = options; counts = counts_of log unknown; findings = findings }
 
--- The text says what was found in the log.
-pub record IsReportOf (said : SaidOfLog) (log : NumberedLog) (options : LogOptions) (text : List ℕ) (verdict : Answer) : Type 0 where
+-- The text is rendered of the log by what was found in it.
+pub record IsReportOf (renders : RendersLog) (log : NumberedLog) (options : LogOptions) (text : List ℕ) (verdict : Answer) : Type 0 where
   pub findings : LogFindings
   pub found : AreFindings log findings
   pub few : AreWithin options.most findings
@@ -42,23 +42,23 @@ pub record IsReportOf (said : SaidOfLog) (log : NumberedLog) (options : LogOptio
   -- how many loads have a source that the values don't tell
   pub unknown : ℕ
   pub counted : IsAmbiguousCount log unknown
-  pub says : text ≡ said log (found_in log options unknown findings)
+  pub says : text ≡ renders log (found_in log options unknown findings)
   pub gives : verdict ≡ verdict_of (found_in log options unknown findings)
 
--- The text is what is said of the refusal of these bytes: they are no log, or lack the line `end` that is needed.
-pub record IsRefusalOf (said : RendersRefusal) (options : LogOptions) (bytes text : List ℕ) (verdict : Answer) : Type 0 where
+-- The text is rendered of the refusal of these bytes: they are no log, or lack the line `end` that is needed.
+pub record IsRefusalOf (renders : RendersRefusal) (options : LogOptions) (bytes text : List ℕ) (verdict : Answer) : Type 0 where
   pub line : ℕ
   pub why : Why
   pub refused : IsLogRefusal options.needs_end bytes line why
-  pub says : text ≡ said bytes line why
+  pub says : text ≡ renders bytes line why
   pub gives : verdict ≡ Refused
 
 -- The text is a report on the log that these bytes spell, or refuses them.
-abbrev pub IsLogReport : SaidOfLog → RendersRefusal → LogOptions → List ℕ → List ℕ → Answer → Type 0
-IsLogReport said refused options bytes text verdict =
-    ((log : NumberedLog) × SpellsLog bytes log × IsEndedAsNeeded options.needs_end bytes × IsReportOf said log options text verdict)
+abbrev pub IsLogReport : RendersLog → RendersRefusal → LogOptions → List ℕ → List ℕ → Answer → Type 0
+IsLogReport renders refused options bytes text verdict =
+    ((log : NumberedLog) × SpellsLog bytes log × IsEndedAsNeeded options.needs_end bytes × IsReportOf renders log options text verdict)
     ⊎ IsRefusalOf refused options bytes text verdict
 
 -- the same of the bytes of a reader
-abbrev pub IsLogReportOfReader : SaidOfLog → RendersRefusal → LogOptions → Option (List ℕ) → List ℕ → Answer → Type 0
-IsLogReportOfReader said refused options remaining text verdict = ReadsAs remaining (λ bytes. IsLogReport said refused options bytes text verdict)
+abbrev pub IsLogReportOfReader : RendersLog → RendersRefusal → LogOptions → Option (List ℕ) → List ℕ → Answer → Type 0
+IsLogReportOfReader renders refused options remaining text verdict = ReadsAs remaining (λ bytes. IsLogReport renders refused options bytes text verdict)

@@ -19,7 +19,7 @@ use Rattle.log_reports.specs.declared.counts.LogCounts.{LogCounts}
 use Rattle.log_reports.specs.Findings.{has_unjudged}
 use Rattle.log_reports.specs.declared.findings.LogFindings.{LogFindings}
 use Rattle.log_reports.specs.declared.forms.LogFound.{LogFound}
-use Rattle.log_reports.specs.LogReports.{SaidOfLog}
+use Rattle.log_reports.specs.LogReports.{RendersLog}
 use Rattle.log_reports.specs.declared.findings.LogViolation.{LogViolation}
 use Rattle.log_reports.specs.declared.findings.LogViolation.TheVariants.{Selection, Unwritten}
 use Rattle.trace_reports.specs.declared.findings.Finding.{Finding}
@@ -112,11 +112,11 @@ violation_traces_text order findings = flat_map (violation_trace_text order) fin
 
 -- ---- the forms
 
-abbrev pub log_lines : SaidOfLog
+abbrev pub log_lines : RendersLog
 log_lines log found = report_text nothing_after found
 
-abbrev pub log_explained : SaidOfLog
+abbrev pub log_explained : RendersLog
 log_explained log found = report_text explained_after found
 
-abbrev pub log_traces : SaidOfLog
+abbrev pub log_traces : RendersLog
 log_traces log found = violation_traces_text log.order found.findings

@@ -157,7 +157,8 @@ impl LogFindings {
     ) -> Result<bool, Fault>
         ensures found { OnOk result (AreFindings known.now self.old → AreFindings known.now self.new) }
         ensures unwritten { OnOk result (count_by is_unwritten self.new.violations.items ≡ count_by is_unwritten self.old.violations.items) }
-        ensures selections { OnOk result (count_by is_selection self.new.violations.items + places.new ≡ count_by is_selection self.old.violations.items + places.old) }
+        ensures selections { OnOk result (count_by is_selection self.new.violations.items + places.new ≡
+            count_by is_selection self.old.violations.items + places.old) }
         ensures fault { IfErr result (λ fault. (fault ≡ Fault.OutOfMemory) ⊎ (fault ≡ Fault.NoThread)) }
     {
         let mut judge = TraceJudge::new(rt, alloc, known, &kept);
@@ -182,7 +183,8 @@ impl LogFindings {
         places: &mut usize,
     ) -> Result<bool, AllocFailed<LogViolation>>
         ensures found { OnOk result ((log : NumberedLog) → IfSome found (IsListed log) → AreFindings log self.old → AreFindings log self.new) }
-        ensures placed { OnOk result ((is : LogViolation → Bool) (counts : Bool) → IfSome found (λ violation. is violation ≡ counts) → count_by is self.new.violations.items + cond counts places.new 0 ≡ count_by is self.old.violations.items + cond counts places.old 0) }
+        ensures placed { OnOk result ((is : LogViolation → Bool) (counts : Bool) → IfSome found (λ violation. is violation ≡ counts) →
+            count_by is self.new.violations.items + cond counts places.new 0 ≡ count_by is self.old.violations.items + cond counts places.old 0) }
     {
         let Some(violation) = found else {
             self.mistaken = self.mistaken.saturating_add(1);

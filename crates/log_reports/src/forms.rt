@@ -1,10 +1,7 @@
-//! The forms in which it is told what was found in a log: as lines, as lines with explanations, or as traces.
-ghost use Rattle.std.specs.Prelude.{◌≡◌, ℕ, List, IfOk, refl, string_bytes};
-ghost use Rattle.tso_text.specs.declared.faults.Why.{Why};
-ghost use Rattle.trace_reports.specs.Renderings.{RendersRefusal};
+//! The forms in which is rendered what was found in a log: as lines, as lines with explanations, or as traces.
+ghost use Rattle.std.specs.Prelude.{refl};
 ghost use Rattle.trace_reports.specs.Reports.{refusal_shown};
 ghost use Rattle.log_reports.specs.LogRefusals.{log_refusal_explained, log_refusal_whole};
-ghost use Rattle.log_reports.specs.LogReports.{SaidOfLog};
 ghost use Rattle.log_reports.specs.LogTexts.{log_explained, log_lines, log_traces};
 
 use crate::counts::LogCounts;
@@ -29,39 +26,6 @@ pub struct LogFound {
     pub findings: LogFindings,
 }
 
-/// How it is told what was found in a log: as lines, with explanations, as traces.
-pub trait LogRendering {
-    /// What is said of a log by what was found in it.
-    ghost said: { SaidOfLog };
-
-    /// What is said of a text that is no log.
-    ghost refused: { RendersRefusal };
-
-    /// What is said of a log, in which this was found. OutOfMemory where an allocation was refused.
-    fn text_of_found(
-        &self,
-        alloc: Global,
-        known: &KnownLog,
-        found: &LogFound,
-    ) -> Result<String, OutOfMemory>
-        ensures { IfOk result (λ text. string_bytes text ≡ said known.now found.now) };
-
-    /// What is said of a text that is refused for this fault. OutOfMemory where an allocation was refused.
-    fn text_of_refusal(
-        &self,
-        alloc: Global,
-        input: &[u8],
-        fault: TextFault,
-    ) -> Result<String, OutOfMemory>
-        ensures { IfOk result (λ text. string_bytes text ≡ refused input.now fault.line fault.why) };
-
-    /// Whether the text names the lines of each violation, and says what wasn't judged. If it doesn't, notes do.
-    fn names_lines(&self) -> bool;
-
-    /// What is said of a text that is refused as a whole, at line 0, is the same for all texts.
-    ghost whole: { (a b : List ℕ) (why : Why) → refused a 0 why ≡ refused b 0 why };
-}
-
 /// The report: the lines of each violation; or the line of a refusal.
 #[derive(Clone, Copy)]
 pub struct AsLogLines;
@@ -75,10 +39,10 @@ pub struct AsExplainedLog;
 #[derive(Clone, Copy)]
 pub struct AsLogTraces;
 
-impl LogRendering for AsLogLines {
-    ghost said = { log_lines };
+impl Rendering<KnownLog, LogFound> for AsLogLines {
+    ghost rendered = { λ _. log_lines };
 
-    ghost refused = { refusal_shown };
+    ghost refused = { λ _. refusal_shown };
 
     fn text_of_found(
         &self,
@@ -98,17 +62,13 @@ impl LogRendering for AsLogLines {
         AsReport.text_of_refusal(alloc, input, fault)
     }
 
-    fn names_lines(&self) -> bool {
-        true
-    }
-
-    ghost whole = { λ a b why. refl };
+    ghost whole = { λ _ a b why. refl };
 }
 
-impl LogRendering for AsExplainedLog {
-    ghost said = { log_explained };
+impl Rendering<KnownLog, LogFound> for AsExplainedLog {
+    ghost rendered = { λ _. log_explained };
 
-    ghost refused = { log_refusal_explained };
+    ghost refused = { λ _. log_refusal_explained };
 
     fn text_of_found(
         &self,
@@ -130,17 +90,13 @@ impl LogRendering for AsExplainedLog {
         Ok(text)
     }
 
-    fn names_lines(&self) -> bool {
-        true
-    }
-
-    ghost whole = { log_refusal_whole };
+    ghost whole = { λ _. log_refusal_whole };
 }
 
-impl LogRendering for AsLogTraces {
-    ghost said = { log_traces };
+impl Rendering<KnownLog, LogFound> for AsLogTraces {
+    ghost rendered = { λ _. log_traces };
 
-    ghost refused = { refusal_shown };
+    ghost refused = { λ _. refusal_shown };
 
     fn text_of_found(
         &self,
@@ -160,9 +116,5 @@ impl LogRendering for AsLogTraces {
         AsReport.text_of_refusal(alloc, input, fault)
     }
 
-    fn names_lines(&self) -> bool {
-        false
-    }
-
-    ghost whole = { λ a b why. refl };
+    ghost whole = { λ _ a b why. refl };
 }

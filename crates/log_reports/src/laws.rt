@@ -5,7 +5,7 @@ ghost use Rattle.log_text.specs.LogTexts.{SpellsLog};
 ghost use Rattle.log_text.specs.LogValues.{NumberedLog, log_operations};
 ghost use Rattle.log_selections.specs.Shown.{log_of_shown};
 ghost use Rattle.log_reports.specs.Findings.{IsListed};
-ghost use Rattle.log_reports.specs.LogReports.{IsLogReport, SaidOfLog};
+ghost use Rattle.log_reports.specs.LogReports.{IsLogReport, RendersLog};
 ghost use Rattle.log_selections.specs.declared.selecting.Selected.{Selected};
 ghost use Rattle.trace_reports.specs.declared.findings.Finding.{Finding};
 ghost use Rattle.log_reports.specs.declared.findings.LogViolation.{LogViolation};
@@ -17,6 +17,8 @@ ghost use Rattle.trace_reports.specs.declared.answers.Answer.TheVariants.{Violat
 /// A log of which a violation is listed has no order of its memory model, nor have a violation's lines alone.
 pub fn violations()
     ensures log { (log : NumberedLog) (violation : LogViolation) → IsListed log violation → IsConsistent (log_operations log) → ⊥ }
-    ensures report { (said : SaidOfLog) (refused : RendersRefusal) (options : LogOptions) (bytes text : List ℕ) → IsLogReport said refused options bytes text Violation → (log : NumberedLog) → SpellsLog bytes log → IsConsistent (log_operations log) → ⊥ }
-    ensures lines { (log : NumberedLog) (selected : Selected) (finding : Finding) → IsListed log (Selection selected finding) → IsConsistent (log_operations (log_of_shown log selected.shown.items)) → ⊥ }
+    ensures report { (said : RendersLog) (refused : RendersRefusal) (options : LogOptions) (bytes text : List ℕ) →
+        IsLogReport said refused options bytes text Violation → (log : NumberedLog) → SpellsLog bytes log → IsConsistent (log_operations log) → ⊥ }
+    ensures lines { (log : NumberedLog) (selected : Selected) (finding : Finding) → IsListed log (Selection selected finding) →
+        IsConsistent (log_operations (log_of_shown log selected.shown.items)) → ⊥ }
 {}

@@ -1,11 +1,11 @@
 //! What is found in a log, and what is printed of it: each violation by lines of the log that have no memory order.
 //!
-//! `report_log` reads a log, searches it, and writes what a `LogRendering` says of it. `README.md` says what is proved.
+//! `report_log` reads a log, searches it, and writes what a `Rendering` gives of it. `README.md` says what is proved.
 #![tactic(auto)]
 
 pub use counts::LogCounts;
 pub use findings::{LogFindings, LogViolation, find_violations};
-pub use forms::{AsExplainedLog, AsLogLines, AsLogTraces, LogFound, LogRendering};
+pub use forms::{AsExplainedLog, AsLogLines, AsLogTraces, LogFound};
 pub use reports::{LogReporting, report_log};
 
 mod counts;

@@ -56,7 +56,8 @@ impl NamedEvents {
 
     /// Appends the events of an operation.
     fn push_shown(&mut self, alloc: Global, shown: &Shown) -> Result<(), AllocError>
-        ensures { OnOk result ((events : List EventName) → AreNames self.old events → AreNames self.new (events ++ events_by shown.now shown.now.logged.operation)) }
+        ensures { OnOk result ((events : List EventName) → AreNames self.old events →
+            AreNames self.new (events ++ events_by shown.now shown.now.logged.operation)) }
     {
         match shown.logged.operation {
             LogOperation::Ld { a, .. } | LogOperation::St { a, .. } => {

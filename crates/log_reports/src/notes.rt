@@ -1,22 +1,19 @@
 //! Notes on a search: what its report doesn't say.
 
 use crate::findings::LogViolation;
-use crate::forms::{LogFound, LogRendering};
+use crate::forms::LogFound;
 use crate::rendering::push_gaps;
 use log_selections::Shown;
+use request_options::LogForm;
 use std::alloc::{AllocError, Global};
 use std::fmt::Write;
 use tso_ops::OutOfMemory;
 
 /// Lines on what was left out of what is printed, and why; nothing where all is there. If what is printed doesn't name lines, there
 /// is first a line for each trace with the lines of the log that it has. OutOfMemory where an allocation was refused.
-pub(crate) fn render_notes<P: LogRendering>(
-    alloc: Global,
-    rendering: &P,
-    found: &LogFound,
-) -> Result<String, OutOfMemory> {
+pub(crate) fn render_notes(alloc: Global, found: &LogFound) -> Result<String, OutOfMemory> {
     let findings = &found.findings;
-    let names_lines = rendering.names_lines();
+    let names_lines = found.options.form != LogForm::Traces;
     let mut text = String::new(alloc);
     if !names_lines {
         push_origins(&mut text, &findings.violations)?;

@@ -147,7 +147,8 @@ fn push_numbered(
     processors: usize,
     violations: &[LogViolation],
 ) -> Result<(), AllocError>
-    ensures { OnOk result (string_bytes text.new ≡ string_bytes text.old ++ numbered_from (violation_text (after_lines explains) processors) (codes "violation ") 1 violations.now) }
+    ensures { OnOk result (string_bytes text.new ≡ string_bytes text.old ++ numbered_from (violation_text (after_lines explains) processors)
+        (codes "violation ") 1 violations.now) }
 {
     for (k, violation) in violations.iter().enumerate() {
         let number = k + 1;
@@ -222,7 +223,8 @@ fn push_store(text: &mut String, word: &str, store: Option<LoggedStore>) -> Resu
 
 /// Appends the lines that couldn't be judged, each group after a line with its number.
 fn push_unjudged(text: &mut String, unjudged: &[Vec<Shown>]) -> Result<(), AllocError>
-    ensures { OnOk result (string_bytes text.new ≡ string_bytes text.old ++ numbered_from (λ shown. log_lines_text shown.items) (codes "unjudged ") 1 unjudged.now) }
+    ensures { OnOk result (string_bytes text.new ≡ string_bytes text.old ++ numbered_from (λ shown. log_lines_text shown.items)
+        (codes "unjudged ") 1 unjudged.now) }
 {
     for (k, shown) in unjudged.iter().enumerate() {
         let number = k + 1;

@@ -13,7 +13,7 @@ ghost use Rattle.log_reports.specs.LogReports.{IsLogReportOfReader, IsReportOf, 
 
 use crate::counts::LogCounts;
 use crate::findings::find_violations;
-use crate::forms::{LogFound, LogRendering};
+use crate::forms::LogFound;
 use crate::notes::render_notes;
 use log_selections::KnownLog;
 use log_text::{Log, read_log};
@@ -24,16 +24,16 @@ use std::io::{Read, Write};
 use std::sync::Wait;
 use std::thread::Threads;
 use text_streams::{Fault, read_all, write_text};
-use trace_reports::Answer;
+use trace_reports::{Answer, Rendering, Report, render_refused};
 use tso_ops::OutOfMemory;
-use tso_text::{TextFault, Why};
+use tso_text::TextFault;
 
-/// How a log is reported on: what is looked for in it, and how it is told what was found.
+/// How a log is reported on: what is looked for in it, and how what was found is rendered.
 #[derive(Drop)]
 pub struct LogReporting<'a, P> {
-    /// What is looked for, and for how long. The form that it names isn't read.
+    /// What is looked for, and for how long. Its form is that of the rendering: as traces, which name no line, notes name the lines.
     pub options: LogOptions,
-    /// What is said of what was found, and of a text that is no log.
+    /// What is rendered of what was found, and of a text that is no log.
     pub rendering: &'a P,
 }
 
@@ -45,7 +45,7 @@ struct LogReport {
     verdict: Answer,
 }
 
-/// Reports on the log that a reader has: writes what the rendering says of what was found in it, or of a text that is no log.
+/// Reports on the log that a reader has: writes what is rendered of what was found in it, or of a text that is no log.
 ///
 /// Notes on what was left out go to `errors`; what that doesn't take is lost. The meter hears how many operations the log has, and
 /// of each once, when the search passed it: of all, unless the search ended early or found more violations than are listed.
@@ -55,7 +55,7 @@ struct LogReport {
 /// more than 1,048,576 times.
 pub fn report_log<
     H: Threads + Wait + AllocGlobal,
-    P: LogRendering,
+    P: Rendering<KnownLog, LogFound>,
     M: TotalMeter,
     R: Read,
     W: Write,
@@ -68,11 +68,17 @@ pub fn report_log<
     writer: &mut W,
     errors: &mut E,
 ) -> Result<Answer, Fault>
-    ensures report { IfOk result (WritesWhole (IsLogReportOfReader P.said P.refused reporting.now.options (R.remaining reader.old)) (W.contents writer.old) (W.contents writer.new)) }
-    ensures no_order { IfOk result (λ verdict. verdict ≡ Answer.Violation → IfSome (R.remaining reader.old) (λ all. (log : NumberedLog) → SpellsLog all log → IsConsistent (log_operations log) → ⊥)) }
-    ensures written { IfOk result (λ verdict. verdict ≡ Answer.Clear → IfSome (R.remaining reader.old) (λ all. (log : NumberedLog) → SpellsLog all log → (l : ℕ) → IsUnwritten (log_operations log) l → ⊥)) }
+    ensures report { IfOk result (WritesWhole
+        (IsLogReportOfReader (P.rendered reporting.now.rendering.now) (P.refused reporting.now.rendering.now) reporting.now.options (R.remaining reader.old))
+        (W.contents writer.old) (W.contents writer.new)) }
+    ensures no_order { IfOk result (λ verdict. verdict ≡ Answer.Violation →
+        IfSome (R.remaining reader.old) (λ all. (log : NumberedLog) → SpellsLog all log → IsConsistent (log_operations log) → ⊥)) }
+    ensures written { IfOk result (λ verdict. verdict ≡ Answer.Clear →
+        IfSome (R.remaining reader.old) (λ all. (log : NumberedLog) → SpellsLog all log → (l : ℕ) → IsUnwritten (log_operations log) l → ⊥)) }
     ensures taken { IfOk result (λ _. IfSome (R.remaining reader.old) (λ all. Consumes (R.remaining reader.old) (R.remaining reader.new) all)) }
-    ensures left { IfErr result (LeavesAtFault (IsLogReportOfReader P.said P.refused reporting.now.options (R.remaining reader.old)) (W.contents writer.old) (W.contents writer.new)) }
+    ensures left { IfErr result (LeavesAtFault
+        (IsLogReportOfReader (P.rendered reporting.now.rendering.now) (P.refused reporting.now.rendering.now) reporting.now.options (R.remaining reader.old))
+        (W.contents writer.old) (W.contents writer.new)) }
     ensures told { (text : List ℕ) × AppendsPrefix (E.contents errors.old) (E.contents errors.new) text }
     ensures untold { OnErr result (Keeps (E.contents errors.old) (E.contents errors.new)) }
 {
@@ -84,13 +90,14 @@ pub fn report_log<
 }
 
 /// The report on the log that a reader has.
-fn read_report<H: Threads + Wait + AllocGlobal, P: LogRendering, M: TotalMeter, R: Read>(
-    rt: &H,
-    reporting: &LogReporting<'_, P>,
-    meter: &M,
-    reader: &mut R,
-) -> Result<LogReport, Fault>
-    ensures report { IfOk result (λ report. IsLogReportOfReader P.said P.refused reporting.now.options (R.remaining reader.old) (string_bytes report.text) report.verdict) }
+fn read_report<
+    H: Threads + Wait + AllocGlobal,
+    P: Rendering<KnownLog, LogFound>,
+    M: TotalMeter,
+    R: Read,
+>(rt: &H, reporting: &LogReporting<'_, P>, meter: &M, reader: &mut R) -> Result<LogReport, Fault>
+    ensures report { IfOk result (λ report. IsLogReportOfReader (P.rendered reporting.now.rendering.now)
+        (P.refused reporting.now.rendering.now) reporting.now.options (R.remaining reader.old) (string_bytes report.text) report.verdict) }
     ensures taken { IfOk result (λ _. IfSome (R.remaining reader.old) (λ all. Consumes (R.remaining reader.old) (R.remaining reader.new) all)) }
     ensures fault { IfErr result (λ fault. (fault ≡ Fault.OutOfMemory) ⊎ (fault ≡ Fault.NoThread) ⊎ (fault ≡ Fault.Read)) }
 {
@@ -107,13 +114,14 @@ fn read_report<H: Threads + Wait + AllocGlobal, P: LogRendering, M: TotalMeter, 
 }
 
 /// The report on a log.
-fn report_on<H: Threads + Wait + AllocGlobal, P: LogRendering, M: TotalMeter>(
+fn report_on<H: Threads + Wait + AllocGlobal, P: Rendering<KnownLog, LogFound>, M: TotalMeter>(
     rt: &H,
     reporting: &LogReporting<'_, P>,
     meter: &M,
     log: Log,
 ) -> Result<LogReport, Fault>
-    ensures report { IfOk result (λ report. IsReportOf P.said (log_value log) reporting.now.options (string_bytes report.text) report.verdict) }
+    ensures report { IfOk result (λ report. IsReportOf (P.rendered reporting.now.rendering.now) (log_value log) reporting.now.options
+        (string_bytes report.text) report.verdict) }
     ensures fault { IfErr result (λ fault. (fault ≡ Fault.OutOfMemory) ⊎ (fault ≡ Fault.NoThread)) }
 {
     let alloc = rt.alloc();
@@ -130,7 +138,7 @@ fn report_on<H: Threads + Wait + AllocGlobal, P: LogRendering, M: TotalMeter>(
     };
     Ok(LogReport {
         text: rendering.text_of_found(alloc, &known, &found)?,
-        notes: render_notes(alloc, rendering, &found)?,
+        notes: render_notes(alloc, &found)?,
         verdict: verdict_of(&found)?,
     })
 }
@@ -159,22 +167,22 @@ fn verdict_of(found: &LogFound) -> Result<Answer, OutOfMemory>
     }
 }
 
-/// What the rendering says of a text that is refused for this fault. OutOfMemory where an allocation was refused, also where the
-/// fault says so.
-fn refuse<P: LogRendering>(
+/// What is rendered of a text that is refused for this fault. OutOfMemory where an allocation was refused, also where the fault says
+/// so.
+fn refuse<P: Rendering<KnownLog, LogFound>>(
     alloc: Global,
     rendering: &P,
     input: &[u8],
     fault: TextFault,
 ) -> Result<LogReport, OutOfMemory>
-    ensures { IfOk result (λ report. (fault.why ≢ Why.OutOfMemory) × (string_bytes report.text ≡ P.refused input.now fault.line fault.why) × (report.verdict ≡ Answer.Refused)) }
+    ensures { IfOk result (λ report. (fault.why ≢ Why.OutOfMemory) × (string_bytes report.text ≡ P.refused rendering.now input.now fault.line fault.why) ×
+        (report.verdict ≡ Answer.Refused)) }
 {
-    if fault.why == Why::OutOfMemory {
-        return Err(OutOfMemory);
-    }
+    let Report { verdict, text } = render_refused(alloc, input, fault, rendering, Answer::Refused)?;
+    let notes = String::new(alloc);
     Ok(LogReport {
-        text: rendering.text_of_refusal(alloc, input, fault)?,
-        notes: String::new(alloc),
-        verdict: Answer::Refused,
+        text,
+        notes,
+        verdict,
     })
 }

@@ -2,35 +2,10 @@
 use Rattle.std.proofs.Common.{◌≡◌, ℕ, List, Ok, Err, Result, IfOk, IfErr, inl, inr}
 use Rattle.std.specs.Prelude.{Option, ◌≢◌}
 use Rattle.std.specs.Io.KnownBytes.{Keeps}
-use Rattle.command_line.specs.declared.options.Presentation.{Presentation}
 use Rattle.text_streams.specs.declared.faults.Fault.{Fault}
 use Rattle.text_streams.specs.declared.faults.Fault.TheVariants.{NoThread}
 use Rattle.text_streams.specs.WrittenTexts.{LeavesAtFault, WritesWhole}
-use Rattle.text_streams.proofs.ReadingFacts.{reads_more}
-use Rattle.trace_judging.specs.Checks.{IsCheckReport}
-use Rattle.trace_reports.specs.Renderings.{IsTextOfInput}
-use Rattle.trace_reports.specs.declared.verdicts.Verdict.{Verdict}
-use Rattle.trace_reports.specs.declared.verdicts.Verdict.TheVariants.{Refused}
-use Rattle.request_texts.specs.NthTraces.{IsSaidOfNth}
-use Rattle.request_texts.specs.OpenedFiles.{HasKnown}
-use Rattle.request_texts.proofs.KnownFacts.{known_reads, said_as_well}
-use Rattle.request_serving.specs.Endings.{Ends, IsCheckOfNth, IsCheckedBy, IsVerdictAsAsked, Outputs, WritesFaultLine}
-use Rattle.request_serving.specs.Presentations.{refused_as, said_as}
-
--- ---- reports of files of which less may be known
-
-pub check_of_known : (nth : Option ℕ) (trace traces cert certs : Option (List ℕ)) → HasKnown trace traces → HasKnown cert certs → (text : List ℕ) (verdict : Verdict) → IsCheckOfNth nth traces certs text verdict →
-    IsCheckOfNth nth trace cert text verdict
-check_of_known nth trace traces cert certs has also text verdict report =
-    let implied : (bytes text : List ℕ) (verdict : Verdict) → IsCheckedBy certs bytes text verdict → IsCheckedBy cert bytes text verdict =
-    λ bytes text verdict. known_reads cert certs also (λ other. IsCheckReport bytes other text verdict) in
-    known_reads trace traces has (λ input. IsSaidOfNth Refused nth (IsCheckedBy cert) input text verdict)
-    (reads_more (λ input. said_as_well Refused (IsCheckedBy certs) (IsCheckedBy cert) implied nth input text verdict) traces report)
-
-pub presented_of_known : (presentation : Presentation) (nth : Option ℕ) (known remaining : Option (List ℕ)) → HasKnown known remaining → (text : List ℕ) (verdict : Verdict) →
-    IsVerdictAsAsked presentation nth remaining text verdict → IsVerdictAsAsked presentation nth known text verdict
-presented_of_known presentation nth known remaining has text verdict =
-    known_reads known remaining has (λ input. IsSaidOfNth Refused nth (IsTextOfInput (said_as presentation) (refused_as presentation)) input text verdict)
+use Rattle.request_serving.specs.Endings.{Ends, Outputs, WritesFaultLine}
 
 -- ---- how a request ends
 

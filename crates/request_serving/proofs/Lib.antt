@@ -1,11 +1,9 @@
+pub mod AskedFacts
 pub mod BatchingFacts
-pub mod DecidingFacts
 pub mod EndFacts
 pub mod FileFacts
 pub mod LawfulFacts
 pub mod LoggingFacts
-pub mod NthFacts
 pub mod OutcomeFacts
 pub mod PartedLines
-pub mod ReducingFacts
 pub mod RunEnds

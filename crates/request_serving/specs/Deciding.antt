@@ -5,9 +5,10 @@ use Rattle.trace_reports.specs.declared.answers.Answer.{Answer}
 use Rattle.trace_reports.specs.declared.answers.Answer.TheVariants.{Refused}
 use Rattle.trace_decisions.specs.DecisionTexts.{IsDecisionText}
 use Rattle.trace_reports.specs.Renderings.{IsTextOf}
-use Rattle.trace_decisions.specs.EvidenceReports.{IsVerification}
+use Rattle.trace_decisions.specs.EvidenceReports.{IsEvidenceReport}
 use Rattle.text_streams.specs.Readings.{ReadsAs}
 use Rattle.request_texts.specs.NthTraces.{IsSaidOfNth}
+use Rattle.request_serving.specs.Evidence.{IsReportOfNth}
 use Rattle.request_serving.specs.Presentations.{decided_as, refused_as}
 
 -- the decision in this form, after at most so many steps, on the only trace of a reader's bytes, or on the one of this number
@@ -15,10 +16,6 @@ abbrev pub IsDecided : Presentation → ℕ → Option ℕ → Option (List ℕ)
 IsDecided presentation effort nth remaining text answer =
     ReadsAs remaining (λ input. IsSaidOfNth Refused nth (IsTextOf (IsDecisionText (decided_as presentation) effort) Refused (refused_as presentation)) input text answer)
 
--- the line on the evidence that a reader has about a trace
-abbrev pub IsVerifiedBy : Option (List ℕ) → List ℕ → List ℕ → Answer → Type 0
-IsVerifiedBy evidence trace text answer = ReadsAs evidence (λ input. IsVerification trace input text answer)
-
--- the line on the evidence about the only trace of another reader's bytes, or about the one of this number
+-- the line on the evidence that a reader has about the only trace of another reader's bytes, or about the one of this number
 abbrev pub IsVerificationOfNth : Option ℕ → Option (List ℕ) → Option (List ℕ) → List ℕ → Answer → Type 0
-IsVerificationOfNth nth traces evidence text answer = ReadsAs traces (λ input. IsSaidOfNth Refused nth (IsVerifiedBy evidence) input text answer)
+IsVerificationOfNth nth traces evidence text answer = IsReportOfNth IsEvidenceReport Refused nth traces evidence text answer

@@ -7,7 +7,7 @@ use Rattle.trace_reports.specs.declared.verdicts.Verdict.TheVariants.{Refused}
 use Rattle.text_streams.specs.declared.faults.Fault.{Fault}
 use Rattle.text_streams.specs.declared.faults.Fault.TheVariants.{OutOfMemory, Read, Write, NoThread, Missing}
 use Rattle.text_streams.specs.Streams.{AppendsPrefix}
-use Rattle.trace_judging.specs.Checks.{IsCheckReport}
+use Rattle.trace_judging.specs.Checks.{IsCertReport}
 use Rattle.text_streams.specs.WrittenTexts.{LeavesAtFault, WritesWhole}
 use Rattle.text_streams.specs.Readings.{ReadsAs}
 use Rattle.trace_reports.specs.Renderings.{IsTextOfInput}
@@ -21,6 +21,7 @@ use Rattle.outcome_reports.specs.SeenTraces.{IsSeenOfReaders}
 use Rattle.request_serving.specs.Batches.{AreTextsOfBatch}
 use Rattle.run_serving.specs.Campaigning.{IsCampaignText, LeavesCampaignText}
 use Rattle.request_serving.specs.Deciding.{IsDecided, IsVerificationOfNth}
+use Rattle.request_serving.specs.Evidence.{IsReportOfNth}
 use Rattle.run_serving.specs.MadePrograms.{IsMadeText, LeavesMadeText}
 use Rattle.request_texts.specs.NthTraces.{IsSaidOfNth}
 use Rattle.request_texts.specs.OpenedFiles.{text_bytes}
@@ -96,13 +97,9 @@ EndsByText is_text leaves o status = Ends is_text (λ said. said) leaves o statu
 abbrev pub IsVerdictAsAsked : Presentation → Option ℕ → Option (List ℕ) → List ℕ → Verdict → Type 0
 IsVerdictAsAsked presentation nth remaining text verdict = ReadsAs remaining (λ input. IsSaidOfNth Refused nth (IsTextOfInput (said_as presentation) (refused_as presentation)) input text verdict)
 
--- the report of the certificate that a reader has on a trace
-abbrev pub IsCheckedBy : Option (List ℕ) → List ℕ → List ℕ → Verdict → Type 0
-IsCheckedBy certs trace text verdict = ReadsAs certs (λ cert. IsCheckReport trace cert text verdict)
-
--- the report of the certificate on the only trace of another reader's bytes, or on the one of this number
+-- the report of the certificate that a reader has on the only trace of another reader's bytes, or on the one of this number
 abbrev pub IsCheckOfNth : Option ℕ → Option (List ℕ) → Option (List ℕ) → List ℕ → Verdict → Type 0
-IsCheckOfNth nth traces certs text verdict = ReadsAs traces (λ input. IsSaidOfNth Refused nth (IsCheckedBy certs) input text verdict)
+IsCheckOfNth nth traces certs text verdict = IsReportOfNth IsCertReport Refused nth traces certs text verdict
 
 -- A text of this kind, with the status of what it says; or a fault left nothing or, on Write, a prefix of such a text. No thread is started for it, so none
 -- is refused.

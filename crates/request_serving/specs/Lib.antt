@@ -1,6 +1,7 @@
 pub mod Batches
 pub mod Deciding
 pub mod Endings
+pub mod Evidence
 pub mod FileCommands
 pub mod Internal
 pub mod LawfulRequests

@@ -14,7 +14,7 @@ use Rattle.decision_explanation.specs.Explained.{decision_explained}
 use Rattle.decision_pictures.specs.Pictured.{decision_pictured}
 use Rattle.request_options.specs.declared.logs.LogForm.{LogForm}
 use Rattle.request_options.specs.declared.logs.LogForm.TheVariants as forms
-use Rattle.log_reports.specs.LogReports.{SaidOfLog}
+use Rattle.log_reports.specs.LogReports.{RendersLog}
 use Rattle.log_reports.specs.LogRefusals.{log_refusal_explained}
 use Rattle.log_reports.specs.LogTexts.{log_explained, log_lines, log_traces}
 
@@ -37,7 +37,7 @@ refused_as Explanation = refusal_explained
 refused_as Picture = refusal_shown
 refused_as FieldPicture = refusal_shown
 
-abbrev pub logged_as : LogForm → SaidOfLog
+abbrev pub logged_as : LogForm → RendersLog
 logged_as forms.Lines = log_lines
 logged_as forms.Explained = log_explained
 logged_as forms.Traces = log_traces

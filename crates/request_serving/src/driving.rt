@@ -58,16 +58,21 @@ pub fn drive<
     writer: &mut W,
     errors: &mut E,
 ) -> u8
-    ensures ends { LeadTo (texts_in arguments.now) (R.remaining reader.old) (λ _. None) (outputs (W.contents writer.old) (W.contents writer.new) (E.contents errors.old) (E.contents errors.new)) result }
-    ensures judges { texts_in arguments.now ≡ codes "judge" ∷ [] → EndsJudged (R.remaining reader.old) (outputs (W.contents writer.old) (W.contents writer.new) (E.contents errors.old) (E.contents errors.new)) result }
-    ensures decides { texts_in arguments.now ≡ codes "decide" ∷ [] → EndsDecided (R.remaining reader.old) (outputs (W.contents writer.old) (W.contents writer.new) (E.contents errors.old) (E.contents errors.new)) result }
+    ensures ends { LeadTo (texts_in arguments.now) (R.remaining reader.old) (λ _. None)
+        (outputs (W.contents writer.old) (W.contents writer.new) (E.contents errors.old) (E.contents errors.new)) result }
+    ensures judges { texts_in arguments.now ≡ codes "judge" ∷ [] →
+        EndsJudged (R.remaining reader.old) (outputs (W.contents writer.old) (W.contents writer.new) (E.contents errors.old) (E.contents errors.new)) result }
+    ensures decides { texts_in arguments.now ≡ codes "decide" ∷ [] →
+        EndsDecided (R.remaining reader.old) (outputs (W.contents writer.old) (W.contents writer.new) (E.contents errors.old) (E.contents errors.new)) result }
     ensures finds { texts_in arguments.now ≡ codes "log" ∷ [] → result ≡ 3 → IsLogWithoutOrder (R.remaining reader.old) }
     ensures no_false_alarm { (asked : Asked) → Asks (texts_in arguments.now) asked → runs_on_lawful_unit asked ≡ true → result ≢ 3 }
-    ensures no_false_alarm_of_text { (asked : Asked) → Asks (texts_in arguments.now) asked → RunsLawfully asked (R.remaining reader.old) (λ _. None) → result ≢ 3 }
+    ensures no_false_alarm_of_text { (asked : Asked) → Asks (texts_in arguments.now) asked → RunsLawfully asked (R.remaining reader.old) (λ _. None) →
+        result ≢ 3 }
     ensures unread { (asked : Asked) → Asks (texts_in arguments.now) asked → reads_input asked ≡ false → reader.new ≡ reader.old }
     ensures unread_help { AsksHelp (texts_in arguments.now) → reader.new ≡ reader.old }
     ensures unread_refusal { Refuses (texts_in arguments.now) → reader.new ≡ reader.old }
-    ensures taken { (asked : Asked) → Asks (texts_in arguments.now) asked → reads_input asked ≡ true → result ≢ 4 → TakesInput asked (R.remaining reader.old) (R.remaining reader.new) }
+    ensures taken { (asked : Asked) → Asks (texts_in arguments.now) asked → reads_input asked ≡ true → result ≢ 4 →
+        TakesInput asked (R.remaining reader.old) (R.remaining reader.new) }
 {
     let mut files = SystemFiles::new(rt, diagnostics);
     let status = drive_over(rt, arguments, &mut files, reader, writer, errors);
@@ -96,19 +101,27 @@ pub fn drive_over<
     W: Write,
     E: Write,
 >(rt: &H, arguments: &[String], files: &mut O, reader: &mut R, writer: &mut W, errors: &mut E) -> u8
-    ensures ends { LeadTo (texts_in arguments.now) (R.remaining reader.old) (O.bytes files.old) (outputs (W.contents writer.old) (W.contents writer.new) (E.contents errors.old) (E.contents errors.new)) result }
-    ensures judges { (file : List ℕ) → NameFile (codes "judge") file (texts_in arguments.now) → EndsJudged (O.bytes files.old file) (outputs (W.contents writer.old) (W.contents writer.new) (E.contents errors.old) (E.contents errors.new)) result }
-    ensures decides { (file : List ℕ) → NameFile (codes "decide") file (texts_in arguments.now) → EndsDecided (O.bytes files.old file) (outputs (W.contents writer.old) (W.contents writer.new) (E.contents errors.old) (E.contents errors.new)) result }
-    ensures checks { (trace cert : List ℕ) → NameFiles (codes "check") trace cert (texts_in arguments.now) → EndsChecked (O.bytes files.old trace) (O.bytes files.old cert) (outputs (W.contents writer.old) (W.contents writer.new) (E.contents errors.old) (E.contents errors.new)) result }
+    ensures ends { LeadTo (texts_in arguments.now) (R.remaining reader.old) (O.bytes files.old)
+        (outputs (W.contents writer.old) (W.contents writer.new) (E.contents errors.old) (E.contents errors.new)) result }
+    ensures judges { (file : List ℕ) → NameFile (codes "judge") file (texts_in arguments.now) →
+        EndsJudged (O.bytes files.old file) (outputs (W.contents writer.old) (W.contents writer.new) (E.contents errors.old) (E.contents errors.new)) result }
+    ensures decides { (file : List ℕ) → NameFile (codes "decide") file (texts_in arguments.now) →
+        EndsDecided (O.bytes files.old file) (outputs (W.contents writer.old) (W.contents writer.new) (E.contents errors.old) (E.contents errors.new)) result }
+    ensures checks { (trace cert : List ℕ) → NameFiles (codes "check") trace cert (texts_in arguments.now) →
+        EndsChecked (O.bytes files.old trace) (O.bytes files.old cert)
+        (outputs (W.contents writer.old) (W.contents writer.new) (E.contents errors.old) (E.contents errors.new)) result }
     ensures finds { (file : List ℕ) → NameFile (codes "log") file (texts_in arguments.now) → result ≡ 3 → IsLogWithoutOrder (O.bytes files.old file) }
     ensures no_false_alarm { (asked : Asked) → Asks (texts_in arguments.now) asked → runs_on_lawful_unit asked ≡ true → result ≢ 3 }
-    ensures no_false_alarm_of_text { (asked : Asked) → Asks (texts_in arguments.now) asked → RunsLawfully asked (R.remaining reader.old) (O.bytes files.old) → result ≢ 3 }
+    ensures no_false_alarm_of_text { (asked : Asked) → Asks (texts_in arguments.now) asked → RunsLawfully asked (R.remaining reader.old) (O.bytes files.old) →
+        result ≢ 3 }
     ensures opened { (asked : Asked) → Asks (texts_in arguments.now) asked → OpensFirst (O.opened files.old) (O.opened files.new) (files_named asked) }
     ensures unread { (asked : Asked) → Asks (texts_in arguments.now) asked → reads_input asked ≡ false → reader.new ≡ reader.old }
-    ensures unread_after_refusal { (asked : Asked) → Asks (texts_in arguments.now) asked → HasRefusedFirstText asked (O.bytes files.old) → reader.new ≡ reader.old }
+    ensures unread_after_refusal { (asked : Asked) → Asks (texts_in arguments.now) asked → HasRefusedFirstText asked (O.bytes files.old) →
+        reader.new ≡ reader.old }
     ensures unread_help { AsksHelp (texts_in arguments.now) → reader.new ≡ reader.old }
     ensures unread_refusal { Refuses (texts_in arguments.now) → reader.new ≡ reader.old }
-    ensures taken { (asked : Asked) → Asks (texts_in arguments.now) asked → reads_input asked ≡ true → result ≢ 4 → TakesInput asked (R.remaining reader.old) (R.remaining reader.new) }
+    ensures taken { (asked : Asked) → Asks (texts_in arguments.now) asked → reads_input asked ≡ true → result ≢ 4 →
+        TakesInput asked (R.remaining reader.old) (R.remaining reader.new) }
 {
     match read_arguments(rt.alloc(), arguments) {
         Ok(line) => {

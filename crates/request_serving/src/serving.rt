@@ -16,7 +16,6 @@ use crate::serving::judging::judge_named;
 use crate::serving::listing::list_named;
 use crate::serving::logging::log_named;
 use crate::serving::reducing::reduce_named;
-use crate::serving::verifying::verify_named;
 use command_line::Request;
 use request_texts::{Environment, SHAPE_LIMITS};
 use run_serving::{campaign_by, limits_of, make, repeat_named, replay_named, run_named};
@@ -24,7 +23,8 @@ use std::io::{Read, Write};
 use std::sync::Wait;
 use std::thread::Threads;
 use text_streams::{Fault, write_text};
-use trace_judging::MAX_WORKERS;
+use trace_decisions::OrdersAndRefutations;
+use trace_judging::{Certificates, MAX_WORKERS};
 use trace_reports::{DONE, REFUSED};
 
 mod batching;
@@ -34,9 +34,8 @@ mod deciding;
 mod judging;
 mod listing;
 mod logging;
-mod numbering;
 mod reducing;
-mod verifying;
+mod reporting;
 
 /// The command line lets just those numbers of workers through that a trace is judged with.
 const _: () = prove!(command_line::MAX_REQUESTED_WORKERS == MAX_WORKERS);
@@ -76,7 +75,8 @@ pub fn serve<H: Threads + Wait + Sync + AllocGlobal, O: Environment, R: Read, W:
     requires unit { HasUnitRanges (asked_of request.now) }
     requires turns { HasDrainTurns (asked_of request.now) }
     requires input { HasOneInput (asked_of request.now) }
-    ensures ends { EndsAsAsked (asked_of request.now) (R.remaining reader.old) (O.bytes files.old) (outputs (W.contents writer.old) (W.contents writer.new) (E.contents errors.old) (E.contents errors.new)) result }
+    ensures ends { EndsAsAsked (asked_of request.now) (R.remaining reader.old) (O.bytes files.old)
+        (outputs (W.contents writer.old) (W.contents writer.new) (E.contents errors.old) (E.contents errors.new)) result }
     ensures text { EndsWithText request.now (outputs (W.contents writer.old) (W.contents writer.new) (E.contents errors.old) (E.contents errors.new)) result }
     ensures no_false_alarm { runs_on_lawful_unit (asked_of request.now) ≡ true → result ≢ 3 }
     ensures no_false_alarm_of_text { RunsLawfully (asked_of request.now) (R.remaining reader.old) (O.bytes files.old) → result ≢ 3 }
@@ -84,7 +84,8 @@ pub fn serve<H: Threads + Wait + Sync + AllocGlobal, O: Environment, R: Read, W:
     ensures opened { result ≢ 4 → OpensNext (O.opened files.old) (O.opened files.new) (files_named (asked_of request.now)) }
     ensures unread { reads_input (asked_of request.now) ≡ false → reader.new ≡ reader.old }
     ensures unread_after_refusal { HasRefusedFirstText (asked_of request.now) (O.bytes files.old) → reader.new ≡ reader.old }
-    ensures taken { reads_input (asked_of request.now) ≡ true → result ≢ 4 → TakesInput (asked_of request.now) (R.remaining reader.old) (R.remaining reader.new) }
+    ensures taken { reads_input (asked_of request.now) ≡ true → result ≢ 4 →
+        TakesInput (asked_of request.now) (R.remaining reader.old) (R.remaining reader.new) }
 {
     match request {
         Request::Judge(request) => end(judge_named(rt, request, files, reader, writer), errors),
@@ -107,11 +108,12 @@ pub fn serve<H: Threads + Wait + Sync + AllocGlobal, O: Environment, R: Read, W:
             end_answer(reported, errors)
         }
         Request::Check(request) => {
-            let checked = check_named(rt.alloc(), request, files, reader, writer);
+            let checked = check_named(rt.alloc(), &Certificates, request, files, reader, writer);
             end(checked, errors)
         }
         Request::Verify(request) => {
-            let verified = verify_named(rt.alloc(), request, files, reader, writer);
+            let kind = &OrdersAndRefutations;
+            let verified = check_named(rt.alloc(), kind, request, files, reader, writer);
             end_answer(verified, errors)
         }
         Request::Outcomes(request) => {

@@ -1,5 +1,5 @@
 -- Lemmas on texts of which some is known, and on the files that are opened.
-use Rattle.std.proofs.Common.{◌≡◌, ◌∙◌, ℕ, List, [], ◌∷◌, ◌++◌, append_assoc, IfSome, Some, None, arith, length, ap, refl, subst, sym, true, false, true≢false}
+use Rattle.std.proofs.Common.{◌≡◌, ◌∙◌, ℕ, List, [], ◌∷◌, ◌++◌, append_assoc, IfSome, Some, None, arith, length, ap, refl, subst, sym, take, true, false, true≢false}
 use Rattle.std.specs.Prelude.{Option, is_some, not, option_map}
 use Rattle.std.specs.Borrow.{Bor}
 use Rattle.std.specs.List.{list_all}
@@ -18,6 +18,15 @@ knows_itself (Some all) = refl
 pub known_reads : (known remaining : Option (List ℕ)) → HasKnown known remaining → (Is : List ℕ → Type 0) → ReadsAs remaining Is → ReadsAs known Is
 known_reads None remaining has Is reads = record { bytes = reads.bytes; of_read = reads.of_read; of_all = tt }
 known_reads (Some all) remaining has Is reads = subst (λ r. ReadsAs r Is) has reads
+
+-- what holds of all of them holds of what is known of the file
+pub known_all : (P : List ℕ → Type 0) (known remaining : Option (List ℕ)) → HasKnown known remaining → IfSome remaining P → IfSome known P
+known_all P None remaining has holds = tt
+known_all P (Some all) remaining has holds = subst (λ r. IfSome r P) has holds
+
+-- what was read of a file is so of what is known of it
+pub known_prefix : (limit : ℕ) (bytes : List ℕ) (known remaining : Option (List ℕ)) → HasKnown known remaining → IfSome remaining (λ all. bytes ≡ take limit all) → IfSome known (λ all. bytes ≡ take limit all)
+known_prefix limit bytes = known_all (λ all. bytes ≡ take limit all)
 
 -- what is said of the trace that is asked for follows from what else is said of it
 pub said_as_well : {X : Type 0} (refused : X) (A B : List ℕ → List ℕ → X → Type 0) → ((trace text : List ℕ) (said : X) → A trace text said → B trace text said) → (nth : Option ℕ) (input text : List ℕ) (said : X) →

@@ -1,1 +1,3 @@
 pub mod KnownFacts
+pub mod NthFacts
+pub mod PairFacts

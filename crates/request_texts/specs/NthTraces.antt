@@ -1,7 +1,7 @@
 -- The trace that is asked for: the only one of a text, or the one of a number among those that stand in it one after the other.
-use Rattle.std.specs.Prelude.{◌≡◌, ◌++◌, ℕ, List, [], ◌∷◌, codes, Option, None, Some, IfSome}
+use Rattle.std.specs.Prelude.{◌≡◌, ◌++◌, ℕ, List, [], ◌∷◌, codes, take, Option, None, Some, IfSome}
 use Rattle.std.specs.Io.KnownBytes.{Consumes}
-use Rattle.trace_streams.specs.NthTraceTexts.{IsNthTraceText}
+use Rattle.trace_streams.specs.NthTraceTexts.{IsKeptOfNth, IsNthTraceText}
 use Rattle.trace_streams.specs.Limits.{trace_read_limit}
 use Rattle.text_streams.specs.Streams.{LosesPrefix}
 use Rattle.tso_text.specs.Refusals.{IsRefusedTrace}
@@ -24,6 +24,11 @@ IsSaidOfNth {X} refused (Some number) Is input text said = (piece : Option (List
 abbrev pub IsRefusedNth : Option ℕ → List ℕ → Type 0
 IsRefusedNth None input = IsRefusedTrace input
 IsRefusedNth (Some number) input = (piece : Option (List ℕ)) × IsNthTraceText number input piece × IfSome piece IsRefusedTrace
+
+-- what is kept of the input, or of its trace text of this number: its first bytes
+abbrev pub IsKeptOfAsked : Option ℕ → List ℕ → Option (List ℕ) → Type 0
+IsKeptOfAsked None input kept = kept ≡ Some (take trace_read_limit input)
+IsKeptOfAsked (Some number) input kept = IsKeptOfNth number input kept
 
 -- What is taken where the trace is read: so many bytes that one of too many bytes is seen, or, of traces that stand one after the other, some of the first.
 abbrev pub TakesTrace : Option ℕ → Option (List ℕ) → Option (List ℕ) → Type 0

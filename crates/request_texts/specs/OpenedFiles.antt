@@ -19,6 +19,11 @@ abbrev pub text_bytes : Option (List ℕ) → Option (List ℕ) → (List ℕ �
 text_bytes None input files = input
 text_bytes (Some name) input files = files name
 
+-- the same of a text that was opened: those of its file, else those of standard input
+abbrev pub opened_bytes : Option (Option (List ℕ)) → Option (List ℕ) → Option (List ℕ)
+opened_bytes None input = input
+opened_bytes (Some remaining) input = remaining
+
 -- standard input is read
 abbrev pub reads_input : Asked → Bool
 reads_input asked = not (list_all is_some (needs asked).texts)

@@ -7,7 +7,9 @@
 pub use diagnostics::{Diagnostics, WatchedReader};
 pub use files::{Environment, SystemFiles, open};
 pub use hints::{SEEDS_LIMITS, SHAPE_LIMITS};
+pub use named_texts::{OpenedPair, open_named, open_pair, read_asked, read_named, read_text};
 
 mod diagnostics;
 mod files;
 mod hints;
+mod named_texts;

@@ -1,4 +1,3 @@
 pub mod CampaigningFacts
 pub mod RepeatingFacts
 pub mod ReplayingFacts
-pub mod RunningFacts

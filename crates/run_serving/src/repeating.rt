@@ -16,14 +16,14 @@ use crate::printing::{print_refusal, recorded_text};
 use crate::running::{Drains, record_run};
 use crate::units::make_unit;
 use command_line::RunTimesRequest;
-use request_texts::{Environment, open};
+use request_texts::{Environment, open_named, read_text};
 use std::io::{Read, Write};
 use std::sync::Wait;
 use std::thread::Threads;
-use text_streams::{read_all, write_text};
+use text_streams::write_text;
 use trace_reports::DONE;
 use tso_ops::Program;
-use tso_text::{MAX_TEXT_BYTES, read_program};
+use tso_text::read_program;
 use unit_core::{Account, MemoryUnit};
 
 /// Runs the program in a file, or else what the reader has, so many times, and writes the trace of each run: the status.
@@ -36,35 +36,16 @@ pub fn repeat_named<H: Threads + Wait + Sync + AllocGlobal, O: Environment, R: R
 ) -> Result<u8, RunFailure>
     requires unit { IsUnitInRange request.now.unit }
     requires turns { request.now.drain_turns ≤ drain_turns_limit }
-    ensures whole { let programs = text_bytes (name_in request.now.program) (R.remaining reader.old) (O.bytes files.old) in IfOk result (WritesWhole (IsRunTimesText request.now.unit request.now.times programs) (W.contents writer.old) (W.contents writer.new)) }
-    ensures left { let programs = text_bytes (name_in request.now.program) (R.remaining reader.old) (O.bytes files.old) in OnErr result (LeavesRunTimes request.now.unit request.now.times programs (W.contents writer.old) (W.contents writer.new)) }
+    ensures whole { let programs = text_bytes (name_in request.now.program) (R.remaining reader.old) (O.bytes files.old) in
+        IfOk result (WritesWhole (IsRunTimesText request.now.unit request.now.times programs) (W.contents writer.old) (W.contents writer.new)) }
+    ensures left { let programs = text_bytes (name_in request.now.program) (R.remaining reader.old) (O.bytes files.old) in
+        OnErr result (LeavesRunTimes request.now.unit request.now.times programs (W.contents writer.old) (W.contents writer.new)) }
     ensures opened { OpensNext (O.opened files.old) (O.opened files.new) (files_named (asked_of (RunTimes request.now))) }
     ensures unread { IfSome request.now.program (λ _. reader.new ≡ reader.old) }
     ensures taken { request.now.program ≡ None → IfOk result (λ _. LosesPrefix trace_read_limit (R.remaining reader.old) (R.remaining reader.new)) }
 {
-    match request.program {
-        None => repeat_read(rt, request, reader, writer),
-        Some(name) => {
-            let mut program = open(files, name)?;
-            repeat_read(rt, request, &mut program, writer)
-        }
-    }
-}
-
-/// Runs the program that a reader has so many times.
-fn repeat_read<H: Threads + Wait + Sync + AllocGlobal, P: Read, W: Write>(
-    rt: &H,
-    request: &RunTimesRequest<'_>,
-    programs: &mut P,
-    writer: &mut W,
-) -> Result<u8, RunFailure>
-    requires unit { IsUnitInRange request.now.unit }
-    requires turns { request.now.drain_turns ≤ drain_turns_limit }
-    ensures whole { IfOk result (WritesWhole (IsRunTimesText request.now.unit request.now.times (P.remaining programs.old)) (W.contents writer.old) (W.contents writer.new)) }
-    ensures left { OnErr result (LeavesRunTimes request.now.unit request.now.times (P.remaining programs.old) (W.contents writer.old) (W.contents writer.new)) }
-    ensures taken { IfOk result (λ _. LosesPrefix trace_read_limit (P.remaining programs.old) (P.remaining programs.new)) }
-{
-    let input = read_all(rt.alloc(), programs, MAX_TEXT_BYTES)?;
+    let program = open_named(files, request.program)?;
+    let input = read_text(rt.alloc(), program, reader)?;
     match read_program(rt.alloc(), &input) {
         Ok(program) => {
             repeat(rt, request, request.times, &program, writer)?;
@@ -88,8 +69,10 @@ fn repeat<H: Threads + Wait + Sync + AllocGlobal, W: Write>(
 ) -> Result<(), RunFailure>
     requires unit { IsUnitInRange request.now.unit }
     requires turns { request.now.drain_turns ≤ drain_turns_limit }
-    ensures whole { OnOk result ((text : List ℕ) × AreRunTraces request.now.unit program.now times text × Appends (W.contents writer.old) (W.contents writer.new) text) }
-    ensures left { OnErr result ((done : ℕ) × (done ≤ times) × (text : List ℕ) × AreRunTraces request.now.unit program.now done text × AppendsPrefix (W.contents writer.old) (W.contents writer.new) text) }
+    ensures whole { OnOk result ((text : List ℕ) × AreRunTraces request.now.unit program.now times text ×
+        Appends (W.contents writer.old) (W.contents writer.new) text) }
+    ensures left { OnErr result ((done : ℕ) × (done ≤ times) × (text : List ℕ) × AreRunTraces request.now.unit program.now done text ×
+        AppendsPrefix (W.contents writer.old) (W.contents writer.new) text) }
 {
     let mut seed = request.drain_seed;
     for _done in 0..times {

@@ -10,22 +10,24 @@ ghost use Rattle.trace_judging.specs.Limits.{HasWorkerRange};
 ghost use Rattle.run_serving.specs.Ranges.{AreInRange};
 ghost use Rattle.run_serving.specs.FailedRuns.{LeavesAtFailure, OnFault};
 ghost use Rattle.request_texts.specs.OpenedFiles.{OpensNext, files_named, name_in, text_bytes};
-ghost use Rattle.run_serving.specs.Printing.{unit_of};
+ghost use Rattle.run_serving.specs.Printing.{IsPrintedOf, unit_of};
 ghost use Rattle.run_serving.specs.Running.{IsRunPrinted, IsRunText};
 ghost use Rattle.text_streams.specs.WrittenTexts.{WritesWhole};
+ghost use Rattle.tso_text.specs.Refusals.{IsProgramRefusal};
+ghost use Rattle.tso_text.specs.Texts.{SpellsProgram};
 
 use crate::failures::{RunFailure, failure_of};
 use crate::printing::{Printed, print_record, print_refusal};
 use crate::units::make_unit;
 use command_line::RunRequest;
 use issue_desk::{Issuers, OpenGate, RunThreads, run_with_drainer};
-use request_texts::{Environment, open};
+use request_texts::{Environment, open_named, read_text};
 use std::io::{Read, Write};
 use std::sync::Wait;
 use std::thread::Threads;
-use text_streams::{read_all, write_text};
+use text_streams::write_text;
 use tso_ops::Program;
-use tso_text::{MAX_TEXT_BYTES, read_program};
+use tso_text::read_program;
 use unit_core::{Account, MemoryUnit, Recorded};
 
 /// When the stores of a run are drained: by the processors' threads, as drawn from the seed, and by a drainer with so many
@@ -46,53 +48,34 @@ pub fn run_named<H: Threads + Wait + Sync + AllocGlobal, O: Environment, R: Read
 ) -> Result<u8, RunFailure>
     requires ranges { AreInRange request.now.options }
     requires turns { request.now.drain_turns ≤ drain_turns_limit }
-    ensures text { let programs = text_bytes (name_in request.now.program) (R.remaining reader.old) (O.bytes files.old) in IfOk result (WritesWhole (IsRunText request.now.options programs) (W.contents writer.old) (W.contents writer.new)) }
-    ensures fault { let programs = text_bytes (name_in request.now.program) (R.remaining reader.old) (O.bytes files.old) in IfErr result (LeavesAtFailure (IsRunText request.now.options programs) (W.contents writer.old) (W.contents writer.new)) }
+    ensures text { let programs = text_bytes (name_in request.now.program) (R.remaining reader.old) (O.bytes files.old) in
+        IfOk result (WritesWhole (IsRunText request.now.options programs) (W.contents writer.old) (W.contents writer.new)) }
+    ensures fault { let programs = text_bytes (name_in request.now.program) (R.remaining reader.old) (O.bytes files.old) in
+        IfErr result (LeavesAtFailure (IsRunText request.now.options programs) (W.contents writer.old) (W.contents writer.new)) }
     ensures opened { OpensNext (O.opened files.old) (O.opened files.new) (files_named (asked_of (Run request.now))) }
     ensures unread { IfSome request.now.program (λ _. reader.new ≡ reader.old) }
     ensures taken { request.now.program ≡ None → IfOk result (λ _. LosesPrefix trace_read_limit (R.remaining reader.old) (R.remaining reader.new)) }
 {
-    match request.program {
-        None => write_run(rt, request, reader, writer),
-        Some(name) => {
-            let mut program = open(files, name)?;
-            write_run(rt, request, &mut program, writer)
-        }
-    }
-}
-
-/// Runs the program that a reader has.
-fn write_run<H: Threads + Wait + Sync + AllocGlobal, P: Read, W: Write>(
-    rt: &H,
-    request: &RunRequest<'_>,
-    programs: &mut P,
-    writer: &mut W,
-) -> Result<u8, RunFailure>
-    requires ranges { AreInRange request.now.options }
-    requires turns { request.now.drain_turns ≤ drain_turns_limit }
-    ensures text { IfOk result (WritesWhole (IsRunText request.now.options (P.remaining programs.old)) (W.contents writer.old) (W.contents writer.new)) }
-    ensures fault { IfErr result (LeavesAtFailure (IsRunText request.now.options (P.remaining programs.old)) (W.contents writer.old) (W.contents writer.new)) }
-    ensures taken { IfOk result (λ _. LosesPrefix trace_read_limit (P.remaining programs.old) (P.remaining programs.new)) }
-{
-    let printed = run_text(rt, request, programs)?;
+    let program = open_named(files, request.program)?;
+    let input = read_text(rt.alloc(), program, reader)?;
+    let printed = run_text(rt, request, &input)?;
     write_text(writer, &printed.text)?;
     Ok(printed.status)
 }
 
-/// What is printed of a run of the program that the reader has.
-fn run_text<H: Threads + Wait + Sync + AllocGlobal, P: Read>(
+/// What is printed of a run of the program that a text spells.
+fn run_text<H: Threads + Wait + Sync + AllocGlobal>(
     rt: &H,
     request: &RunRequest<'_>,
-    programs: &mut P,
+    input: &[u8],
 ) -> Result<Printed, RunFailure>
     requires ranges { AreInRange request.now.options }
     requires turns { request.now.drain_turns ≤ drain_turns_limit }
-    ensures text { IfOk result (λ printed. IsRunText request.now.options (P.remaining programs.old) printed.text.items printed.status) }
-    ensures taken { IfOk result (λ _. LosesPrefix trace_read_limit (P.remaining programs.old) (P.remaining programs.new)) }
-    ensures fault { IfErr result (OnFault (λ fault. (fault ≡ Fault.OutOfMemory) ⊎ ((fault ≡ Fault.Read) ⊎ (fault ≡ Fault.NoThread)))) }
+    ensures text { IfOk result (λ printed. IsPrintedOf SpellsProgram IsProgramRefusal
+        (IsRunPrinted request.now.options) input.now printed.text.items printed.status) }
+    ensures fault { IfErr result (OnFault (λ fault. (fault ≡ Fault.OutOfMemory) ⊎ (fault ≡ Fault.NoThread))) }
 {
-    let input = read_all(rt.alloc(), programs, MAX_TEXT_BYTES)?;
-    match read_program(rt.alloc(), &input) {
+    match read_program(rt.alloc(), input) {
         Ok(program) => run_program(rt, request, &program),
         Err(fault) => Ok(print_refusal(rt.alloc(), fault)?),
     }

@@ -36,7 +36,9 @@ impl EvidenceKind for OrdersAndRefutations {
         // Its clause `kept`, that the trace is within the limits of traces, is what `says` rests on.
         let _events = trace.events();
         match read_evidence(alloc, input) {
-            Ok(evidence) => line_on(alloc, trace, &evidence),
+            Ok(Evidence::Unwritten(n)) => line_on_load(alloc, trace, n),
+            Ok(Evidence::Order(order)) => line_on_order(alloc, trace, order.items()),
+            Ok(Evidence::Refutation(lines)) => line_on_refutation(alloc, trace, lines.items()),
             Err(fault) if fault.why == EvidenceFault::OutOfMemory => Err(OutOfMemory),
             Err(fault) => Ok(Report {
                 verdict: Answer::Refused,
@@ -47,17 +49,6 @@ impl EvidenceKind for OrdersAndRefutations {
 
     fn refusal(&self) -> Answer {
         Answer::Refused
-    }
-}
-
-/// The line on evidence about a trace.
-fn line_on(alloc: Global, trace: &Trace, evidence: &Evidence) -> Result<Report<Answer>, OutOfMemory>
-    ensures { IfOk result (λ report. IsEvidenceLine trace.now evidence.now (string_bytes report.text) report.verdict) }
-{
-    match evidence {
-        Evidence::Unwritten(n) => line_on_load(alloc, trace, *n),
-        Evidence::Order(order) => line_on_order(alloc, trace, order.items()),
-        Evidence::Refutation(lines) => line_on_refutation(alloc, trace, lines.items()),
     }
 }
 

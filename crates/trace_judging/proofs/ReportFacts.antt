@@ -1,5 +1,5 @@
 -- Lemmas on what is found of a trace.
-use Rattle.std.proofs.Common.{ℕ, [], ◌<◌, ◌≤◌, arith, inl, inr, refl, ⊎_elim}
+use Rattle.std.proofs.Common.{ℕ, ◌<◌, ◌≤◌, arith, inl, inr, refl, ⊎_elim}
 use Rattle.std.specs.Prelude.{Option, None, Some, MatchOption}
 use Rattle.std.specs.Option.{option_map_or}
 use Rattle.std.proofs.lemmas.Bool.{cases_lt}
@@ -11,14 +11,13 @@ use Rattle.tso_cert.specs.declared.steps.Certificate.{Certificate}
 use Rattle.tso_model.specs.Certs.{IsCertificateOf}
 use Rattle.tso_model.specs.Ranks.{RankSet, IsRounds}
 use Rattle.tso_model.specs.Rules.{HasDerivedCycle}
+use Rattle.tso_model.proofs.CertificateCause.{certificate_cause}
 use Rattle.tso_ops.proofs.NumberFacts.{event_at-within, own_values}
 use Rattle.trace_reports.specs.declared.findings.Finding.{Finding}
-use Rattle.trace_reports.specs.declared.verdicts.Verdict.{Verdict}
 use Rattle.trace_reports.specs.declared.verdicts.Verdict.TheVariants.{NoViolation, Violation}
 use Rattle.trace_reports.specs.Findings.{IsFinding}
-use Rattle.trace_reports.specs.Renderings.{IsTextOfTrace}
 use Rattle.trace_reports.specs.Violations.{IsViolation}
-use Rattle.trace_reports.proofs.RenderingFacts.{none_no_violation, trace_no_order, trace_violation, violation_leaves_none}
+use Rattle.trace_reports.proofs.RenderingFacts.{none_no_violation, violation_leaves_none}
 use Rattle.trace_judging.specs.Verdicts.{VerdictSays}
 
 -- ---- unwritten loads
@@ -51,9 +50,7 @@ pub finding_written : (t : TraceValue) (found : Option Certificate) → ((l : �
 finding_written t None written none = λ violation. ⊎_elim (λ (unwritten : (l : ℕ) × IsUnwritten t l). written unwritten.0 unwritten.1) (λ (cycle : HasDerivedCycle t). none cycle) violation
 finding_written t (Some c) written is = is
 
--- a trace is a violation if a certificate is found
-abbrev verdict_of : Finding → Verdict
-verdict_of finding = option_map_or (λ _. Violation) finding.certificate NoViolation
+-- ---- what a verdict says
 
 pub violation_says : (t : TraceValue) → IsTrace t → IsViolation t → VerdictSays t Violation
 violation_says t trace violation = record { violation = (λ _. violation, λ _. refl); no_order = λ _ consistent. violation_leaves_none t (own_values t trace) violation consistent }
@@ -61,8 +58,10 @@ violation_says t trace violation = record { violation = (λ _. violation, λ _. 
 pub clear_says : (t : TraceValue) → (IsViolation t → ⊥) → VerdictSays t NoViolation
 clear_says t none = record { violation = (λ e. absurd (none_no_violation e), λ violation. absurd (none violation)); no_order = λ e _. absurd (none_no_violation e) }
 
+says_of_found : (t : TraceValue) → IsTrace t → (c : Option Certificate) → MatchOption c (IsViolation t → ⊥) (IsCertificateOf t) → VerdictSays t (option_map_or (λ _. Violation) c NoViolation)
+says_of_found t trace None none = clear_says t none
+says_of_found t trace (Some c) is = violation_says t trace (certificate_cause t c is)
+
 -- what a finding answers says so of the trace
-pub verdict_says : (t : TraceValue) → IsTrace t → (f : Finding) → IsFinding t f → VerdictSays t (verdict_of f)
-verdict_says t trace f found =
-    let text : IsTextOfTrace (λ t f. []) t [] (verdict_of f) = record { finding = f; found = found; says = refl; whole = refl } in
-    record { violation = trace_violation t [] (verdict_of f) text; no_order = trace_no_order t [] (verdict_of f) trace text }
+pub verdict_says : (t : TraceValue) → IsTrace t → (f : Finding) → IsFinding t f → VerdictSays t (option_map_or (λ _. Violation) f.certificate NoViolation)
+verdict_says t trace f found = says_of_found t trace f.certificate found.certificate

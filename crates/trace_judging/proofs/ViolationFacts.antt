@@ -6,20 +6,16 @@ use Rattle.tso_model.specs.Axioms.{IsConsistent}
 use Rattle.tso_model.specs.Certs.{IsCertificateOf}
 use Rattle.tso_model.specs.Rules.{HasDerivedCycle}
 use Rattle.tso_model.proofs.CertificateCause.{certificate_cause}
-use Rattle.tso_model.proofs.EdgesForward.{all_written, no_derived_cycle}
 use Rattle.tso_ops.proofs.NumberFacts.{own_values}
 use Rattle.tso_ops.specs.Events.{IsUnwritten}
 use Rattle.tso_ops.specs.Limits.{IsTrace}
 use Rattle.tso_ops.specs.Values.{TraceValue}
 use Rattle.trace_reports.specs.Violations.{IsViolation}
+use Rattle.trace_reports.proofs.RenderingFacts.{violation_leaves_none}
 
 -- a violation has no order
 pub violation_no_order : (t : TraceValue) → IsTrace t → IsViolation t → IsConsistent t → ⊥
-violation_no_order t kept violation consistent =
-    ⊎_elim
-    (λ (unwritten : (l : ℕ) × IsUnwritten t l). all_written t consistent.0 consistent.1 unwritten.0 unwritten.1)
-    (λ (cycle : HasDerivedCycle t). no_derived_cycle t (own_values t kept) consistent.0 consistent.1 cycle)
-    violation
+violation_no_order t kept violation consistent = violation_leaves_none t (own_values t kept) violation consistent
 
 -- what has a certificate is a violation
 pub certified : (t : TraceValue) (found : Option Certificate) → MatchOption found (IsViolation t → ⊥) (IsCertificateOf t) → is_some found ≡ true → IsViolation t

@@ -5,7 +5,7 @@ ghost use Rattle.tso_text.specs.Refusals.{IsRefusedTrace};
 ghost use Rattle.tso_text.specs.Texts.{SpellsTrace};
 ghost use Rattle.trace_streams.specs.Limits.{trace_read_limit};
 ghost use Rattle.text_streams.specs.declared.faults.Fault.{Fault};
-ghost use Rattle.trace_judging.specs.Evidence.{IsReportOfReader, IsReportOfReaders, ReportsEvidence};
+ghost use Rattle.trace_judging.specs.Evidence.{IsReportOfEvidence, IsReportOfReaders, ReportsEvidence};
 ghost use Rattle.trace_judging.specs.Limits.{certificate_byte_limit, certificate_read_limit};
 ghost use Rattle.text_streams.specs.Streams.{LosesPrefix};
 ghost use Rattle.text_streams.specs.WrittenTexts.{LeavesAtFault, WritesWhole};
@@ -91,29 +91,36 @@ fn report_texts<T: Read, E: Read, K: EvidenceKind>(
     ensures fault { IfErr result (λ fault. (fault ≡ Fault.OutOfMemory) ⊎ (fault ≡ Fault.Read)) }
 {
     let input = read_all(alloc, traces, MAX_TEXT_BYTES)?;
-    match read_trace(alloc, &input) {
-        Ok(trace) => report_on(alloc, kind, &trace, evidence),
-        Err(fault) => {
-            let refusing = kind.refusal();
-            Ok(render_refused(alloc, &input, fault, &AsReport, refusing)?)
-        }
-    }
+    report_text(alloc, kind, &input, evidence)
 }
 
-/// The report of what a reader has of evidence, on a trace.
-fn report_on<E: Read, K: EvidenceKind>(
+/// The report of the evidence that a reader has, on the trace that a text spells; or that of the text's refusal, and then the
+/// evidence isn't read. Of the evidence at most 67,108,865 bytes are read.
+///
+/// Faults: OutOfMemory where an allocation was refused; Read where the reader failed or passed 2,097,152 calls, or the text of the
+/// evidence has more than 67,108,864 bytes.
+pub fn report_text<E: Read, K: EvidenceKind>(
     alloc: Global,
     kind: &K,
-    trace: &Trace,
-    reader: &mut E,
+    input: &[u8],
+    evidence: &mut E,
 ) -> Result<Report<K::Verdict>, Fault>
-    ensures report { IfOk result (λ report. IsReportOfReader K.is_report trace.now (E.remaining reader.old) (string_bytes report.text) report.verdict) }
-    ensures says { IfOk result (λ report. K.says trace.now report.verdict) }
-    ensures taken { IfOk result (λ _. LosesPrefix certificate_read_limit (E.remaining reader.old) (E.remaining reader.new)) }
+    ensures report { IfOk result (λ report. IsReportOfEvidence K.is_report K.refusing (E.remaining evidence.old) input.now (string_bytes report.text) report.verdict) }
+    ensures says { IfOk result (λ report. (t : TraceValue) → SpellsTrace input.now t → K.says t report.verdict) }
+    ensures taken { IfOk result (λ _. evidence.new ≡ evidence.old ⊎ LosesPrefix certificate_read_limit (E.remaining evidence.old) (E.remaining evidence.new)) }
+    ensures unread { IsRefusedTrace input.now → evidence.new ≡ evidence.old }
     ensures fault { IfErr result (λ fault. (fault ≡ Fault.OutOfMemory) ⊎ (fault ≡ Fault.Read)) }
 {
-    let input = read_cert_text(alloc, reader)?;
-    Ok(kind.report(alloc, trace, &input)?)
+    match read_trace(alloc, input) {
+        Ok(trace) => {
+            let text = read_cert_text(alloc, evidence)?;
+            Ok(kind.report(alloc, &trace, &text)?)
+        }
+        Err(fault) => {
+            let refusing = kind.refusal();
+            Ok(render_refused(alloc, input, fault, &AsReport, refusing)?)
+        }
+    }
 }
 
 /// All bytes of a reader, which are no more than the text of a certificate may have, or other evidence. Faults: OutOfMemory where

@@ -49,13 +49,18 @@ pub(crate) fn batch_named<
 ) -> Result<Answer, Fault>
     requires workers { 1 ≤ request.now.workers }
     requires input { reads_one (files_in request.now.texts.items) }
-    ensures whole { let are_texts = AreTextsOfBatch (files_in request.now.texts.items) (R.remaining reader.old) (O.bytes files.old) in IfOk result (λ verdict. (texts : List BatchText) × are_texts texts × WritesBatch request.now.printing texts (W.contents writer.old) (W.contents writer.new) (E.contents errors.old) (E.contents errors.new) verdict) }
-    ensures left { let are_texts = AreTextsOfBatch (files_in request.now.texts.items) (R.remaining reader.old) (O.bytes files.old) in OnErr result ((texts : List BatchText) × are_texts texts × LeavesBatch request.now.printing texts (W.contents writer.old) (W.contents writer.new) (E.contents errors.old) (E.contents errors.new)) }
+    ensures whole { let are_texts = AreTextsOfBatch (files_in request.now.texts.items) (R.remaining reader.old) (O.bytes files.old) in
+        IfOk result (λ verdict. (texts : List BatchText) × are_texts texts ×
+        WritesBatch request.now.printing texts (W.contents writer.old) (W.contents writer.new) (E.contents errors.old) (E.contents errors.new) verdict) }
+    ensures left { let are_texts = AreTextsOfBatch (files_in request.now.texts.items) (R.remaining reader.old) (O.bytes files.old) in
+        OnErr result ((texts : List BatchText) × are_texts texts ×
+        LeavesBatch request.now.printing texts (W.contents writer.old) (W.contents writer.new) (E.contents errors.old) (E.contents errors.new)) }
     ensures fault { IfErr result IsBatchFault }
     ensures first { OpensFirst (O.opened files.old) (O.opened files.new) (filter_map (λ file. file) (files_in request.now.texts.items)) }
     ensures opened { IfOk result (λ _. OpensNext (O.opened files.old) (O.opened files.new) (filter_map (λ file. file) (files_in request.now.texts.items))) }
     ensures unread { list_all is_some (files_in request.now.texts.items) ≡ true → reader.new ≡ reader.old }
-    ensures taken { list_all is_some (files_in request.now.texts.items) ≡ false → IfOk result (λ _. IfSome (R.remaining reader.old) (λ all. Consumes (R.remaining reader.old) (R.remaining reader.new) all)) }
+    ensures taken { list_all is_some (files_in request.now.texts.items) ≡ false →
+        IfOk result (λ _. IfSome (R.remaining reader.old) (λ all. Consumes (R.remaining reader.old) (R.remaining reader.new) all)) }
 {
     let batch = judge_each(rt, request, files, reader, writer, errors)?;
     batch.end(writer, errors)
@@ -72,13 +77,18 @@ fn judge_each<H: Threads + Wait + Sync + AllocGlobal, O: Environment, R: Read, W
 ) -> Result<Batch, Fault>
     requires workers { 1 ≤ request.now.workers }
     requires input { reads_one (files_in request.now.texts.items) }
-    ensures judged { let are_texts = AreTextsOfBatch (files_in request.now.texts.items) (R.remaining reader.old) (O.bytes files.old) in IfOk result (λ batch. (texts : List BatchText) × are_texts texts × HasWritten batch request.now.printing texts (W.contents writer.old) (W.contents writer.new) (E.contents errors.old) (E.contents errors.new)) }
-    ensures left { let are_texts = AreTextsOfBatch (files_in request.now.texts.items) (R.remaining reader.old) (O.bytes files.old) in OnErr result ((texts : List BatchText) × are_texts texts × LeavesBatch request.now.printing texts (W.contents writer.old) (W.contents writer.new) (E.contents errors.old) (E.contents errors.new)) }
+    ensures judged { let are_texts = AreTextsOfBatch (files_in request.now.texts.items) (R.remaining reader.old) (O.bytes files.old) in
+        IfOk result (λ batch. (texts : List BatchText) × are_texts texts ×
+        HasWritten batch request.now.printing texts (W.contents writer.old) (W.contents writer.new) (E.contents errors.old) (E.contents errors.new)) }
+    ensures left { let are_texts = AreTextsOfBatch (files_in request.now.texts.items) (R.remaining reader.old) (O.bytes files.old) in
+        OnErr result ((texts : List BatchText) × are_texts texts ×
+        LeavesBatch request.now.printing texts (W.contents writer.old) (W.contents writer.new) (E.contents errors.old) (E.contents errors.new)) }
     ensures fault { IfErr result IsBatchFault }
     ensures first { OpensFirst (O.opened files.old) (O.opened files.new) (filter_map (λ file. file) (files_in request.now.texts.items)) }
     ensures opened { OnOk result (OpensNext (O.opened files.old) (O.opened files.new) (filter_map (λ file. file) (files_in request.now.texts.items))) }
     ensures unread { list_all is_some (files_in request.now.texts.items) ≡ true → reader.new ≡ reader.old }
-    ensures taken { list_all is_some (files_in request.now.texts.items) ≡ false → OnOk result (IfSome (R.remaining reader.old) (λ all. Consumes (R.remaining reader.old) (R.remaining reader.new) all)) }
+    ensures taken { list_all is_some (files_in request.now.texts.items) ≡ false →
+        OnOk result (IfSome (R.remaining reader.old) (λ all. Consumes (R.remaining reader.old) (R.remaining reader.new) all)) }
 {
     let mut batch = begin(rt.alloc(), request, writer)?;
     let texts = request.texts.as_slice();
@@ -149,13 +159,18 @@ impl NamedText<'_> {
         writer: &mut W,
         errors: &mut E,
     ) -> Result<(), Fault>
-        ensures judged { OnOk result ((text : BatchText) × IsNamedText (name_in self.entry.name) (R.remaining reader.old) (O.bytes files.old) (name_in self.entry.file) text × Judges text batch.old batch.new (W.contents writer.old) (W.contents writer.new) (E.contents errors.old) (E.contents errors.new)) }
-        ensures left { OnErr result ((text : BatchText) × IsNamedText (name_in self.entry.name) (R.remaining reader.old) (O.bytes files.old) (name_in self.entry.file) text × LeavesText text batch.old (W.contents writer.old) (W.contents writer.new) (E.contents errors.old) (E.contents errors.new)) }
+        ensures judged { OnOk result ((text : BatchText) ×
+            IsNamedText (name_in self.entry.name) (R.remaining reader.old) (O.bytes files.old) (name_in self.entry.file) text ×
+            Judges text batch.old batch.new (W.contents writer.old) (W.contents writer.new) (E.contents errors.old) (E.contents errors.new)) }
+        ensures left { OnErr result ((text : BatchText) ×
+            IsNamedText (name_in self.entry.name) (R.remaining reader.old) (O.bytes files.old) (name_in self.entry.file) text ×
+            LeavesText text batch.old (W.contents writer.old) (W.contents writer.new) (E.contents errors.old) (E.contents errors.new)) }
         ensures fault { IfErr result IsBatchFault }
         ensures opened { OpensNext (O.opened files.old) (O.opened files.new) (option_to_list (name_in self.entry.file)) }
         ensures same { O.bytes files.new ≡ O.bytes files.old }
         ensures unread { IfSome self.entry.file (λ _. reader.new ≡ reader.old) }
-        ensures taken { self.entry.file ≡ None → OnOk result (IfSome (R.remaining reader.old) (λ all. Consumes (R.remaining reader.old) (R.remaining reader.new) all)) }
+        ensures taken { self.entry.file ≡ None →
+            OnOk result (IfSome (R.remaining reader.old) (λ all. Consumes (R.remaining reader.old) (R.remaining reader.new) all)) }
     {
         let meter = files.meter("traces", None);
         match self.file {

@@ -23,14 +23,19 @@ pub(crate) fn count_named<O: Environment, R: Read, W: Write>(
     reader: &mut R,
     writer: &mut W,
 ) -> Result<Answer, Fault>
-    ensures whole { let programs = text_bytes (files_of request.now.texts).0 (R.remaining reader.old) (O.bytes files.old) in let streams = text_bytes (files_of request.now.texts).1 (R.remaining reader.old) (O.bytes files.old) in IfOk result (WritesWhole (IsSeenOfReaders request.now.limit programs streams) (W.contents writer.old) (W.contents writer.new)) }
-    ensures fault { let programs = text_bytes (files_of request.now.texts).0 (R.remaining reader.old) (O.bytes files.old) in let streams = text_bytes (files_of request.now.texts).1 (R.remaining reader.old) (O.bytes files.old) in IfErr result (LeavesAtFault (IsSeenOfReaders request.now.limit programs streams) (W.contents writer.old) (W.contents writer.new)) }
+    ensures whole { let programs = text_bytes (files_of request.now.texts).0 (R.remaining reader.old) (O.bytes files.old) in
+        let streams = text_bytes (files_of request.now.texts).1 (R.remaining reader.old) (O.bytes files.old) in
+        IfOk result (WritesWhole (IsSeenOfReaders request.now.limit programs streams) (W.contents writer.old) (W.contents writer.new)) }
+    ensures fault { let programs = text_bytes (files_of request.now.texts).0 (R.remaining reader.old) (O.bytes files.old) in
+        let streams = text_bytes (files_of request.now.texts).1 (R.remaining reader.old) (O.bytes files.old) in
+        IfErr result (LeavesAtFault (IsSeenOfReaders request.now.limit programs streams) (W.contents writer.old) (W.contents writer.new)) }
     ensures no_thread { IfErr result (λ fault. fault ≢ NoThread) }
     ensures first { OpensFirst (O.opened files.old) (O.opened files.new) (files_named (asked_of (Seen request.now))) }
     ensures opened { OnOk result (OpensNext (O.opened files.old) (O.opened files.new) (files_named (asked_of (Seen request.now)))) }
     ensures unread { reads_input (asked_of (Seen request.now)) ≡ false → reader.new ≡ reader.old }
     ensures unread_after_refusal { HasRefusedFirstText (asked_of (Seen request.now)) (O.bytes files.old) → reader.new ≡ reader.old }
-    ensures taken { reads_input (asked_of (Seen request.now)) ≡ true → OnOk result (TakesInput (asked_of (Seen request.now)) (R.remaining reader.old) (R.remaining reader.new)) }
+    ensures taken { reads_input (asked_of (Seen request.now)) ≡ true →
+        OnOk result (TakesInput (asked_of (Seen request.now)) (R.remaining reader.old) (R.remaining reader.new)) }
 {
     let limit = request.limit;
     match request.texts {

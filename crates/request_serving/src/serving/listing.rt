@@ -25,8 +25,10 @@ pub(crate) fn list_named<O: Environment, R: Read, W: Write>(
     reader: &mut R,
     writer: &mut W,
 ) -> Result<Answer, Fault>
-    ensures whole { let programs = text_bytes (name_in request.now.program) (R.remaining reader.old) (O.bytes files.old) in IfOk result (WritesWhole (IsOutcomesOfReader request.now.options programs) (W.contents writer.old) (W.contents writer.new)) }
-    ensures fault { let programs = text_bytes (name_in request.now.program) (R.remaining reader.old) (O.bytes files.old) in IfErr result (LeavesAtFault (IsOutcomesOfReader request.now.options programs) (W.contents writer.old) (W.contents writer.new)) }
+    ensures whole { let programs = text_bytes (name_in request.now.program) (R.remaining reader.old) (O.bytes files.old) in
+        IfOk result (WritesWhole (IsOutcomesOfReader request.now.options programs) (W.contents writer.old) (W.contents writer.new)) }
+    ensures fault { let programs = text_bytes (name_in request.now.program) (R.remaining reader.old) (O.bytes files.old) in
+        IfErr result (LeavesAtFault (IsOutcomesOfReader request.now.options programs) (W.contents writer.old) (W.contents writer.new)) }
     ensures no_thread { IfErr result (λ fault. fault ≢ NoThread) }
     ensures opened { OpensNext (O.opened files.old) (O.opened files.new) (files_named (asked_of (Outcomes request.now))) }
     ensures unread { IfSome request.now.program (λ _. reader.new ≡ reader.old) }

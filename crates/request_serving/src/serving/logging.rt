@@ -36,13 +36,16 @@ pub(crate) fn log_named<
     writer: &mut W,
     errors: &mut E,
 ) -> Result<Answer, Fault>
-    ensures whole { let remaining = text_bytes (name_in request.now.file) (R.remaining reader.old) (O.bytes files.old) in IfOk result (WritesWhole (IsLogged request.now.options remaining) (W.contents writer.old) (W.contents writer.new)) }
-    ensures left { let remaining = text_bytes (name_in request.now.file) (R.remaining reader.old) (O.bytes files.old) in IfErr result (LeavesAtFault (IsLogged request.now.options remaining) (W.contents writer.old) (W.contents writer.new)) }
+    ensures whole { let remaining = text_bytes (name_in request.now.file) (R.remaining reader.old) (O.bytes files.old) in
+        IfOk result (WritesWhole (IsLogged request.now.options remaining) (W.contents writer.old) (W.contents writer.new)) }
+    ensures left { let remaining = text_bytes (name_in request.now.file) (R.remaining reader.old) (O.bytes files.old) in
+        IfErr result (LeavesAtFault (IsLogged request.now.options remaining) (W.contents writer.old) (W.contents writer.new)) }
     ensures told { IfOk result (λ _. (text : List ℕ) × AppendsPrefix (E.contents errors.old) (E.contents errors.new) text) }
     ensures untold { OnErr result (Keeps (E.contents errors.old) (E.contents errors.new)) }
     ensures opened { OpensNext (O.opened files.old) (O.opened files.new) (files_named (asked_of (Log request.now))) }
     ensures unread { IfSome request.now.file (λ _. reader.new ≡ reader.old) }
-    ensures taken { request.now.file ≡ None → IfOk result (λ _. IfSome (R.remaining reader.old) (λ all. Consumes (R.remaining reader.old) (R.remaining reader.new) all)) }
+    ensures taken { request.now.file ≡ None →
+        IfOk result (λ _. IfSome (R.remaining reader.old) (λ all. Consumes (R.remaining reader.old) (R.remaining reader.new) all)) }
 {
     let meter = files.meter("operations", None);
     match request.file {
@@ -63,8 +66,12 @@ fn log_reader<H: Threads + Wait + AllocGlobal, M: TotalMeter, R: Read, W: Write,
     writer: &mut W,
     errors: &mut E,
 ) -> Result<Answer, Fault>
-    ensures whole { IfOk result (WritesWhole (IsLogReportOfReader (logged_as options.now.form) (log_refused_as options.now.form) options.now (R.remaining reader.old)) (W.contents writer.old) (W.contents writer.new)) }
-    ensures left { IfErr result (LeavesAtFault (IsLogReportOfReader (logged_as options.now.form) (log_refused_as options.now.form) options.now (R.remaining reader.old)) (W.contents writer.old) (W.contents writer.new)) }
+    ensures whole { IfOk result (WritesWhole
+        (IsLogReportOfReader (logged_as options.now.form) (log_refused_as options.now.form) options.now (R.remaining reader.old)) (W.contents writer.old)
+        (W.contents writer.new)) }
+    ensures left { IfErr result (LeavesAtFault
+        (IsLogReportOfReader (logged_as options.now.form) (log_refused_as options.now.form) options.now (R.remaining reader.old)) (W.contents writer.old)
+        (W.contents writer.new)) }
     ensures told { IfOk result (λ _. (text : List ℕ) × AppendsPrefix (E.contents errors.old) (E.contents errors.new) text) }
     ensures untold { OnErr result (Keeps (E.contents errors.old) (E.contents errors.new)) }
     ensures taken { IfOk result (λ _. IfSome (R.remaining reader.old) (λ all. Consumes (R.remaining reader.old) (R.remaining reader.new) all)) }

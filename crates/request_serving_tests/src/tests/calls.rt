@@ -3,7 +3,7 @@
 
 use command_line::{CommandLine, MakeOptions, Notes, Request, read_arguments};
 use request_serving::drive;
-use request_texts::{Diagnostics, Environment, open};
+use request_texts::{Diagnostics, Environment, read_named};
 use run_serving::make;
 use std::alloc::{AllocError, AllocGlobal, Global};
 use std::io::{Read, Write};
@@ -21,12 +21,16 @@ pub(super) fn request_of_arguments<'a>(
     Ok((request, notes))
 }
 
-/// `request_texts`: opens a file and closes it.
-pub(super) fn open_a_file<O: Environment>(files: &mut O, name: &str) -> Result<(), Fault> {
-    let mut file = open(files, name)?;
-    let mut first = [0u8; 1];
-    let _ = file.read(&mut first);
-    Ok(())
+/// `request_texts`: reads the trace of a number in a file, or else on standard input.
+pub(super) fn read_a_trace<O: Environment, R: Read>(
+    alloc: Global,
+    name: Option<&str>,
+    nth: Option<u64>,
+    files: &mut O,
+    reader: &mut R,
+) -> Result<Option<Vec<u8>>, Fault> {
+    let text = read_named(alloc, name, nth, files, reader)?;
+    Ok(text)
 }
 
 /// `run_serving`: writes the program of a seed.

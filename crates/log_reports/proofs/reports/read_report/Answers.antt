@@ -7,7 +7,7 @@ pub returns-in-Ok-clause-report : goal.returns-in-Ok-clause-report
 returns-in-Ok-clause-report g c =
     let small = c.in_ok-text.text.small in
     let all = all_read (g.R.Read.remaining c.args.reader.now) c.in_ok-text.text.items c.in_ok-text.ensures.prefix (omega (arith, small)) in
-    log_said g.P.LogRendering.said g.P.LogRendering.refused c.args.reporting.now.options (g.R.Read.remaining c.args.reader.now) _ _ all c.deref.ensures.value (log_value c.in-Ok.log) c.report_on.result c.in-Ok.ensures.found c.in-Ok.ensures.ended c.report_on.ensures.report
+    log_said (g.P.Rendering.rendered c.args.reporting.now.rendering.now) (g.P.Rendering.refused c.args.reporting.now.rendering.now) c.args.reporting.now.options (g.R.Read.remaining c.args.reader.now) _ _ all c.deref.ensures.value (log_value c.in-Ok.log) c.report_on.result c.in-Ok.ensures.found c.in-Ok.ensures.ended c.report_on.ensures.report
 
 pub returns-in-Ok-clause-taken : goal.returns-in-Ok-clause-taken
 returns-in-Ok-clause-taken g c =
@@ -20,8 +20,8 @@ returns-in_ok-refuse-in-Err-clause-report g c =
     let all = all_read (g.R.Read.remaining c.args.reader.now) c.in_ok-text.text.items c.in_ok-text.ensures.prefix (omega (arith, small)) in
     let (other, says, gives) = c.in_ok-refuse-in-Err.ensures in
     let same = c.deref-in-Err.ensures.value ∙ sym c.deref.ensures.value in
-    let said = says ∙ ap (λ (l : List ℕ). g.P.LogRendering.refused l c.in-Err.fault.line c.in-Err.fault.why) same in
-    refusal_said g.P.LogRendering.said g.P.LogRendering.refused c.args.reporting.now.options (g.R.Read.remaining c.args.reader.now) _ _ all c.deref.ensures.value c.in-Err.fault.line c.in-Err.fault.why _ _ (c.in-Err.ensures.refused other) said gives
+    let said = says ∙ ap (λ (l : List ℕ). g.P.Rendering.refused c.args.reporting.now.rendering.now l c.in-Err.fault.line c.in-Err.fault.why) same in
+    refusal_said (g.P.Rendering.rendered c.args.reporting.now.rendering.now) (g.P.Rendering.refused c.args.reporting.now.rendering.now) c.args.reporting.now.options (g.R.Read.remaining c.args.reader.now) _ _ all c.deref.ensures.value c.in-Err.fault.line c.in-Err.fault.why _ _ (c.in-Err.ensures.refused other) said gives
 
 pub returns-in_ok-refuse-in-Err-clause-taken : goal.returns-in_ok-refuse-in-Err-clause-taken
 returns-in_ok-refuse-in-Err-clause-taken g c =

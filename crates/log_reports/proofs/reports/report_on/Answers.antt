@@ -12,7 +12,7 @@ pub returns-clause-report : goal.returns-clause-report
 returns-clause-report g c =
     let findings = c.in_ok-findings.findings in
     let options = c.args.reporting.now.options in
-    let said = g.P.LogRendering.said in
+    let said = g.P.Rendering.rendered c.args.reporting.now.rendering.now in
     let unknown = c.ambiguous_loads.result in
     let log = c.in_ok-known.ensures in
     let with_counts : LogCounts → LogFound = λ n. record { options = options; counts = n; findings = findings } in

@@ -190,4 +190,4 @@ pub returns-in-Seen-clause-first : goal.returns-in-Seen-clause-first
 returns-in-Seen-clause-first g c = rw c.in-Seen.is c.count_named-counted.ensures.first
 
 pub returns-in-Verify-clause-first : goal.returns-in-Verify-clause-first
-returns-in-Verify-clause-first g c = rw c.in-Verify.is c.verify_named-verified.ensures.first
+returns-in-Verify-clause-first g c = rw c.in-Verify.is c.check_named-verified.ensures.first

@@ -1,13 +1,18 @@
-use Rattle.request_serving.proofs.DecidingFacts.{decided_of_known}
-use Rattle.text_streams.proofs.StreamFacts.{faults_as, writes_as}
+use Rattle.request_serving.specs.Deciding.{IsDecided}
+use Rattle.request_serving.proofs.AskedFacts.{decision_asked, report_left, report_written}
+use Rattle.request_texts.specs.OpenedFiles.{name_in, text_bytes}
 use Rattle.request_serving.proofs.serving.deciding.decide_named.Goals as goal
 
-pub returns-in_ok-file-in-Some-clause-decided : goal.returns-in_ok-file-in-Some-clause-decided
-returns-in_ok-file-in-Some-clause-decided g c =
-    let read = c.decide_reader-in-Some in
-    rw c.in-Some.is (writes_as _ _ (decided_of_known c.args.request.now.presentation c.args.request.now.effort c.args.request.now.nth _ _ c.in_ok-file-in-Some.ensures.known) _ _ read.result read.ensures.decided)
+pub returns-clause-decided : goal.returns-clause-decided
+returns-clause-decided g c =
+    let request = c.args.request.now in
+    let remaining = text_bytes (name_in request.file) (g.R.Read.remaining c.args.reader.now) (g.O.Environment.bytes c.args.files.now) in
+    let is = decision_asked request.nth remaining _ c.in_ok-asked.ensures.text _ request.presentation request.effort _ c.in_ok-report.ensures.said in
+    report_written (IsDecided request.presentation request.effort request.nth remaining) _ _ _ _ is c.write_report.result c.write_report.ensures.whole
 
-pub returns-in_ok-file-in-Some-clause-fault : goal.returns-in_ok-file-in-Some-clause-fault
-returns-in_ok-file-in-Some-clause-fault g c =
-    let read = c.decide_reader-in-Some in
-    rw c.in-Some.is (faults_as _ _ (decided_of_known c.args.request.now.presentation c.args.request.now.effort c.args.request.now.nth _ _ c.in_ok-file-in-Some.ensures.known) _ _ read.result read.ensures.fault)
+pub returns-clause-fault : goal.returns-clause-fault
+returns-clause-fault g c =
+    let request = c.args.request.now in
+    let remaining = text_bytes (name_in request.file) (g.R.Read.remaining c.args.reader.now) (g.O.Environment.bytes c.args.files.now) in
+    let is = decision_asked request.nth remaining _ c.in_ok-asked.ensures.text _ request.presentation request.effort _ c.in_ok-report.ensures.said in
+    report_left (IsDecided request.presentation request.effort request.nth remaining) _ _ _ _ is c.write_report.result c.write_report.ensures.fault
