@@ -1,5 +1,5 @@
 //! The pairs that program order gives, and those of the number 0.
-ghost use Rattle.std.specs.Prelude.{◌≡◌, ◌<◌, ◌≤◌, suc, ℕ, length};
+ghost use Rattle.std.specs.Prelude.{◌≡◌, ◌<◌, ◌≤◌, suc, length};
 ghost use Rattle.tso_ops.specs.Events.{event_total};
 ghost use Rattle.acyclic_traces.specs.Internal.Pairs.{AreOrderPairs};
 

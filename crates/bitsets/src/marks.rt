@@ -1,5 +1,5 @@
 //! Rows of bits that grow as numbers are marked in them.
-ghost use Rattle.std.specs.Prelude.{◌≡◌, ◌↔◌, ◌<◌, ◌≤◌, ◌/◌, ◌%◌, ℕ, Some, OnOk, length};
+ghost use Rattle.std.specs.Prelude.{◌≡◌, ◌↔◌, ◌<◌, ◌/◌, ◌%◌, ℕ, Some, OnOk, length};
 ghost use Rattle.bitsets.specs.Rows.{HasBit, HasNumber, Marks};
 
 use std::alloc::AllocError;

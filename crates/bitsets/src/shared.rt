@@ -37,7 +37,8 @@ pub fn first_shared(
     requires other_row { row * table.width + table.width ≤ length other.now }
     requires end { high ≤ table.width }
     requires used { (y : ℕ) → y / 64 < table.width → IsSet other.now table.width row y → (low ≤ y / 64) × (y / 64 < high) }
-    ensures { MatchOption result (NoneShared table.entry.words.now x other.now row table.entry.width) (IsFirstShared table.entry.words.now x other.now row table.entry.width) }
+    ensures { MatchOption result (NoneShared table.entry.words.now x other.now row table.entry.width)
+        (IsFirstShared table.entry.words.now x other.now row table.entry.width) }
 {
     for j in low..high {
         let shared = table.words[x * table.width + j] & other[row * table.width + j];

@@ -112,7 +112,8 @@ pub fn or_rows(table: &mut [u64], row: usize, other: BitTable, i: usize, rows: u
     requires fits { 64 * i + 64 < 2 ^ 64 }
     requires row { row * other.width + other.width ≤ length table.old }
     requires within { (k : ℕ) → k < 64 → HasBit rows k → (64 * i + k) * other.width + other.width ≤ length other.words.now }
-    ensures { Adds table.old table.new other.entry.width (λ r y. (r ≡ row) × (first ≤ y / 64) × ((x : ℕ) × (x / 64 ≡ i) × HasBit rows (x % 64) × IsSet other.entry.words.now other.entry.width x y)) }
+    ensures { Adds table.old table.new other.entry.width (λ r y. (r ≡ row) × (first ≤ y / 64) ×
+        ((x : ℕ) × (x / 64 ≡ i) × HasBit rows (x % 64) × IsSet other.entry.words.now other.entry.width x y)) }
 {
     let mut left = rows;
     while left != 0 {

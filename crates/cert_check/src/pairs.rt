@@ -1,5 +1,5 @@
 //! Where the checker looks up the pairs of the steps so far.
-ghost use Rattle.std.specs.Prelude.{◌≡◌, ◌↔◌, ◌<◌, ◌^◌, ◌∷◌, ◌++◌, ℕ, [], List, IsTrue, IfOk};
+ghost use Rattle.std.specs.Prelude.{◌↔◌, ◌<◌, ◌^◌, ◌∷◌, ◌++◌, ℕ, [], List, IsTrue, IfOk};
 ghost use Rattle.tso_cert.specs.declared.steps.CertStep.{CertStep};
 ghost use Rattle.tso_model.specs.Certs.{IsStep};
 ghost use Rattle.cert_check.specs.Internal.Pairs.{Fits, ListsUpTo, ListsOf};

@@ -1,5 +1,5 @@
 //! Numbers in groups.
-ghost use Rattle.std.specs.Prelude.{◌≡◌, ◌<◌, ◌≤◌, ◌^◌, ℕ, [], ◌∷◌, length, map, slice_index, All, IfOk, MatchOption};
+ghost use Rattle.std.specs.Prelude.{◌≡◌, ◌<◌, ◌≤◌, ◌^◌, ℕ, [], length, slice_index, All, IfOk, MatchOption};
 ghost use Rattle.chain_reach.specs.Groups.{node_count, count_of, group_of, IsIn, IsFirstFrom, IsLastBefore};
 ghost use Rattle.chain_reach.specs.Internal.Lists.{IsCut};
 ghost use Rattle.bitsets.specs.Rows.{IsListOf, IsAscending};

@@ -1,6 +1,6 @@
 //! Rows of first numbers that are lowered, since an edge was added.
-ghost use Rattle.std.specs.Prelude.{◌≡◌, ◌⊎◌, ◌<◌, ◌≤◌, ◌+◌, ◌*◌, ◌^◌, ℕ, length, slice_index};
-ghost use Rattle.chain_reach.specs.Groups.{node_count, count_of, group_of};
+ghost use Rattle.std.specs.Prelude.{◌≡◌, ◌<◌, ◌≤◌, ◌+◌, ◌*◌, ◌^◌, ℕ, length, slice_index};
+ghost use Rattle.chain_reach.specs.Groups.{count_of};
 ghost use Rattle.chain_reach.specs.Internal.FirstTables.{Reaches, GrowsBy, GrowsIn, KeepsReach, IsEdge, IsReadyChain, IsGiven, LowersRows, MarksRows};
 ghost use Rattle.chain_reach.specs.Internal.Lists.{IsCut};
 
@@ -48,7 +48,9 @@ fn next_place(low: usize, high: usize, guess: usize, looks: usize) -> usize
 fn reaching(first: &[u16], members: &[u16], edge: NewEdge<'_>, guess: usize) -> usize
     requires chain { edge.from_chain < length edge.given.now }
     requires rows { (k : ℕ) → k < length members.now → slice_index members.now k * length edge.given.now + length edge.given.now ≤ length first.now }
-    requires first { (i j : ℕ) → i < j → j < length members.now → Reaches first.now (length edge.given.now) edge.from edge.from_chain (slice_index members.now j) → Reaches first.now (length edge.given.now) edge.from edge.from_chain (slice_index members.now i) }
+    requires first { (i j : ℕ) → i < j → j < length members.now →
+        Reaches first.now (length edge.given.now) edge.from edge.from_chain (slice_index members.now j) →
+        Reaches first.now (length edge.given.now) edge.from edge.from_chain (slice_index members.now i) }
     ensures { IsCut members.now (Reaches first.now (length edge.entry.given.now) edge.entry.from edge.entry.from_chain) result }
 {
     let count = edge.given.len();
@@ -83,7 +85,8 @@ fn lower_chain(
     requires near { length near.old ≡ length edge.given.now * length edge.given.now }
     requires edge { IsEdge chains.now.keys.items (length edge.given.now) edge.from edge.from_chain edge.to edge.to_chain }
     requires ready { IsReadyChain chains.now.keys.items (length edge.given.now) d first.old grown.old edge.from edge.to }
-    ensures lowered { LowersRows first.old first.new (length edge.entry.given.now) edge.entry.given.now (GrowsIn chains.now.keys.items (length edge.entry.given.now) d first.old edge.entry.from edge.entry.to) }
+    ensures lowered { LowersRows first.old first.new (length edge.entry.given.now) edge.entry.given.now
+        (GrowsIn chains.now.keys.items (length edge.entry.given.now) d first.old edge.entry.from edge.entry.to) }
     ensures marked { MarksRows grown.old grown.new (GrowsIn chains.now.keys.items (length edge.entry.given.now) d first.old edge.entry.from edge.entry.to) }
 {
     let members = chains.list(d);
@@ -113,7 +116,8 @@ pub fn lower_chains(
     requires near { length near.old ≡ length edge.given.now * length edge.given.now }
     requires edge { IsEdge chains.now.keys.items (length edge.given.now) edge.from edge.from_chain edge.to edge.to_chain }
     requires kept { KeepsReach chains.now.keys.items (length edge.given.now) first.old edge.given.now grown.old }
-    ensures lowered { LowersRows first.old first.new (length edge.entry.given.now) edge.entry.given.now (GrowsBy chains.now.keys.items (length edge.entry.given.now) first.old edge.entry.from edge.entry.to) }
+    ensures lowered { LowersRows first.old first.new (length edge.entry.given.now) edge.entry.given.now
+        (GrowsBy chains.now.keys.items (length edge.entry.given.now) first.old edge.entry.from edge.entry.to) }
     ensures marked { MarksRows grown.old grown.new (GrowsBy chains.now.keys.items (length edge.entry.given.now) first.old edge.entry.from edge.entry.to) }
 {
     for d in 0..chains.count() {

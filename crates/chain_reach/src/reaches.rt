@@ -1,5 +1,5 @@
 //! Which numbers lead to which.
-ghost use Rattle.std.specs.Prelude.{◌≡◌, ◌↔◌, ◌⊎◌, ◌<◌, ◌≤◌, ℕ, IsTrue, IfOk, MatchBool, length};
+ghost use Rattle.std.specs.Prelude.{◌≡◌, ◌↔◌, ◌<◌, ◌≤◌, ℕ, IsTrue, IfOk, MatchBool};
 ghost use Rattle.chain_reach.specs.Groups.{node_count, count_of, group_of, IsLaterIn};
 ghost use Rattle.chain_reach.specs.Leading.{Leads, LeadsToMore, Joins};
 ghost use Rattle.bitsets.specs.Rows.{IsListOf};

@@ -1,8 +1,6 @@
 //! What a round adds by chains.
-ghost use Rattle.std.specs.Prelude.{◌≡◌, ◌↔◌, ◌<◌, ℕ, suc, IsTrue, length, Contains};
-ghost use Rattle.order_paths.specs.Paths.{HasCycle, Reaches};
+ghost use Rattle.std.specs.Prelude.{◌↔◌, ◌<◌, ℕ, suc, IsTrue, Contains};
 ghost use Rattle.tso_ops.specs.Values.{TraceValue, rows};
-ghost use Rattle.tso_model.specs.Ranks.{RankSet};
 ghost use Rattle.chain_reach.specs.Groups.{node_count};
 ghost use Rattle.chain_reach.specs.Leading.{Leads};
 ghost use Rattle.chain_rules.specs.Rows.{IsRankReach};

@@ -1,5 +1,5 @@
 //! Least numbers by chain.
-ghost use Rattle.std.specs.Prelude.{◌≡◌, ◌≢◌, ◌<◌, ◌≤◌, ◌+◌, ◌^◌, ℕ, length, min, slice_index};
+ghost use Rattle.std.specs.Prelude.{◌≡◌, ◌<◌, ◌≤◌, ◌+◌, ◌^◌, ℕ, length, min, slice_index};
 ghost use Rattle.chain_rules.specs.Internal.Lowering.{LowersAt};
 
 /// Lowers the number of a chain to `n`, where that is less.

@@ -82,7 +82,8 @@ fn add_source(trace: &Trace, chains: &Groups, least: &mut [u16], l: usize)
     requires within { l < suc (event_total trace.now) }
     requires sized { length least.old ≡ suc (event_total trace.now) * count_of chains.now }
     ensures kept { KeepsRows least.old least.new (count_of chains.now) l }
-    ensures row { (d : ℕ) → d < count_of chains.now → LowersBySource trace.now chains.now l d (slice_index least.old (l * count_of chains.now + d)) (slice_index least.new (l * count_of chains.now + d)) }
+    ensures row { (d : ℕ) → d < count_of chains.now → LowersBySource trace.now chains.now l d (slice_index least.old (l * count_of chains.now + d))
+        (slice_index least.new (l * count_of chains.now + d)) }
 {
     let _kept = trace.events();
     if let Some(s) = trace.source_number(l) {

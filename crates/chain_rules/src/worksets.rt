@@ -1,7 +1,5 @@
 //! Which rows a round looks at.
-ghost use Rattle.std.specs.Prelude.{◌<◌, ◌≤◌, ℕ, AllPairs, IfOk, Contains};
-ghost use Rattle.tso_ops.specs.Values.{TraceValue};
-ghost use Rattle.tso_ops.specs.Events.{event_total};
+ghost use Rattle.std.specs.Prelude.{◌<◌, ℕ, IfOk, Contains};
 ghost use Rattle.tso_rules.specs.Affected.{RestsOn};
 ghost use Rattle.chain_reach.specs.declared.types.Reach.{Reach};
 ghost use Rattle.chain_reach.specs.Leading.{LeadsToMore};

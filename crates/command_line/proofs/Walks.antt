@@ -5,11 +5,11 @@ use Rattle.std.specs.Prelude.{if◌then◌else◌}
 use Rattle.std.specs.Str.{bytes_eq}
 use Rattle.std.proofs.Math.Bool.{and-false}
 use Rattle.clap.specs.Lexer.{long_of}
-use Rattle.clap.specs.Walk.{Held, Row, Rule, Text, Waiting, Walk, action_of, arg_by_id, arg_by_index, arg_by_long, idle, is_append, is_multiple, is_pending, most_values, next_position, nothing_held, rows_after, settled, settled_rows, takes_several, takes_values, used, walked, with_default}
+use Rattle.clap.specs.Walk.{Row, Rule, Text, Waiting, Walk, action_of, arg_by_id, arg_by_index, arg_by_long, idle, is_append, is_multiple, is_pending, most_values, next_position, nothing_held, rows_after, settled, settled_rows, takes_several, takes_values, used, walked, with_default}
 use Rattle.clap.specs.Simple.{Shape}
 use Rattle.clap.specs.Kinds.{Kinds, or_else}
 use Rattle.clap.specs.Faults.{check_fault, defaults_fault, level_fault, settle_fault, turn_fault, use_fault, walk_fault}
-use Rattle.command_line.specs.Given.{AreGiven, NamesOption, is_value}
+use Rattle.command_line.specs.Given.{AreGiven, NamesOption}
 use Rattle.command_line.specs.Given as given
 use Rattle.command_line.proofs.ValueTexts.{IsValue, value_is}
 

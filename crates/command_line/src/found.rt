@@ -218,7 +218,8 @@ fn texts_found<'a>(
     alloc: Global,
     names: Option<&[&'a str]>,
 ) -> Result<Option<Vec<Option<&'a str>>>, AllocError>
-    ensures { IfOk result (λ texts. option_map (λ texts. map (option_map (λ file. file.now)) texts.items) texts ≡ batch_texts (unwrap_or (option_map (λ names. map (λ name. name.now) names.now) names.entry) [])) }
+    ensures { IfOk result (λ texts. option_map (λ texts. map (option_map (λ file. file.now)) texts.items) texts ≡
+        batch_texts (unwrap_or (option_map (λ names. map (λ name. name.now) names.now) names.entry) [])) }
 {
     match names {
         Some(names) => batch_texts(alloc, names),
@@ -232,7 +233,8 @@ fn batch_texts<'a>(
     alloc: Global,
     names: &[&'a str],
 ) -> Result<Option<Vec<Option<&'a str>>>, AllocError>
-    ensures { IfOk result (λ texts. option_map (λ texts. map (option_map (λ file. file.now)) texts.items) texts ≡ batch_texts (map (λ name. name.now) names.now)) }
+    ensures { IfOk result (λ texts. option_map (λ texts. map (option_map (λ file. file.now)) texts.items) texts ≡
+        batch_texts (map (λ name. name.now) names.now)) }
 {
     if names.is_empty() {
         return Ok(Some(vec![in alloc; None]?));
@@ -270,7 +272,8 @@ fn inputs_among(texts: &[Option<&str>]) -> usize
 
 /// The two texts that arguments name; none where standard input would be both.
 fn text_pair<'a>(matches: &ArgMatches<'a>, first: &str, second: &str) -> Option<TextPair<'a>>
-    ensures { let rows = rows_of (found_of matches.now) in option_map files_of result ≡ pair_of (file_of (first_of first.now rows)) (file_of (first_of second.now rows)) }
+    ensures { let rows = rows_of (found_of matches.now) in option_map files_of result ≡ pair_of (file_of (first_of first.now rows))
+        (file_of (first_of second.now rows)) }
 {
     pair_of(file(matches, first), file(matches, second))
 }
@@ -313,7 +316,8 @@ fn run_options(matches: &ArgMatches<'_>) -> Option<RunOptions>
 
 /// What is to be printed: the report without the flags of trace and explanation, and nothing with both.
 fn printing(matches: &ArgMatches<'_>) -> Option<Printing>
-    ensures { let rows = rows_of (found_of matches.now) in result ≡ printing_of (is_true (one_of (codes "trace") rows)) (is_true (one_of (codes "explain") rows)) }
+    ensures { let rows = rows_of (found_of matches.now) in result ≡ printing_of (is_true (one_of (codes "trace") rows))
+        (is_true (one_of (codes "explain") rows)) }
 {
     match (is_used(matches, "trace"), is_used(matches, "explain")) {
         (false, false) => Some(Printing::Report),
@@ -362,7 +366,8 @@ fn log_options(matches: &ArgMatches<'_>) -> Option<LogOptions>
 
 /// In which form violations are shown: by their lines without the flags of traces and explanations, and in none with both.
 fn log_form(matches: &ArgMatches<'_>) -> Option<LogForm>
-    ensures { let rows = rows_of (found_of matches.now) in result ≡ log_form_of (is_true (one_of (codes "trace") rows)) (is_true (one_of (codes "explain") rows)) }
+    ensures { let rows = rows_of (found_of matches.now) in result ≡ log_form_of (is_true (one_of (codes "trace") rows))
+        (is_true (one_of (codes "explain") rows)) }
 {
     match (is_used(matches, "trace"), is_used(matches, "explain")) {
         (false, false) => Some(LogForm::Lines),
@@ -406,7 +411,8 @@ pub(crate) fn progress_notes(matches: &ArgMatches<'_>) -> Notes
 
 /// What is told of what reads files and takes long, which has both flags.
 pub(crate) fn both_notes(matches: &ArgMatches<'_>) -> Notes
-    ensures { let rows = rows_of (found_of matches.now) in (result.verbose ≡ is_true (one_of (codes "verbose") rows)) × (result.progress ≡ is_true (one_of (codes "progress") rows)) }
+    ensures { let rows = rows_of (found_of matches.now) in (result.verbose ≡ is_true (one_of (codes "verbose") rows)) ×
+        (result.progress ≡ is_true (one_of (codes "progress") rows)) }
 {
     Notes {
         verbose: is_used(matches, "verbose"),

@@ -1,6 +1,6 @@
 //! What the arguments of a command line ask for.
 ghost use Rattle.std.specs.Prelude.{◌≡◌, IfOk, IsErr, map, option_map, unwrap_or};
-ghost use Rattle.clap.specs.Words.{FailsBy, app_of, fault_of, kind_of, subcommand_of, subcommand_rows_of};
+ghost use Rattle.clap.specs.Words.{FailsBy, fault_of, kind_of, subcommand_of, subcommand_rows_of};
 ghost use Rattle.clap.specs.declared.error.kind.ErrorKind.TheVariants.{OutOfMemory};
 ghost use Rattle.command_line.specs.Requests.{Asked, HasDrainTurns, HasLogRanges, HasOneInput, HasUnitRanges, HasWorkers, asked_of, refusing, showing, texts_in};
 ghost use Rattle.command_line.specs.Spellings.{Asks, AsksHelp, AsksNotes};
@@ -279,7 +279,8 @@ static PROGRAM_HELP: [&str; 1] = ["--help"];
 /// The option that asks for what `help`, alone or with the name of a subcommand, asks for: `clap` promises more of it,
 /// and it gives the same text. None of all other arguments.
 fn help_option(arguments: &[String]) -> Option<&'static [&'static str]>
-    ensures { unwrap_or (option_map (λ option. map (λ argument. argument.now) option.now) result) (texts_in arguments.now) ≡ parsed_as (texts_in arguments.now) }
+    ensures { unwrap_or (option_map (λ option. map (λ argument. argument.now) option.now) result) (texts_in arguments.now) ≡
+        parsed_as (texts_in arguments.now) }
 {
     match arguments {
         [first] if first.as_str() == "help" => Some(PROGRAM_HELP.as_slice()),

@@ -216,7 +216,8 @@ fn with_subcommands<'a>(
     list: &[Subcommand],
 ) -> Result<Command<'a>, AllocError>
     requires { (fields_of program).has_globals ≡ false }
-    ensures app { IfOk result (λ command. app_of command ≡ fold (λ app c. with_subcommand app (offered_app (memory_of names.entry) c.name c.parameters).top) (app_of program.entry) (map member_of list.now)) }
+    ensures app { IfOk result (λ command. app_of command ≡ fold (λ app c. with_subcommand app (offered_app (memory_of names.entry) c.name c.parameters).top)
+        (app_of program.entry) (map member_of list.now)) }
     ensures local { IfOk result (λ command. (fields_of command).has_globals ≡ false) }
 {
     for subcommand in list {

@@ -89,7 +89,8 @@ pub(crate) fn effort(matches: &ArgMatches<'_>) -> u64
 
 /// How many steps the search for a decision does, at most, where one is asked for.
 pub(crate) fn decision_effort(matches: &ArgMatches<'_>) -> Option<u64>
-    ensures { result ≡ (if is_true (one_of (codes "decide") (rows_of (found_of matches.now))) then Some (number_or 100000 (one_of (codes "effort") (rows_of (found_of matches.now)))) else None) }
+    ensures { result ≡ (if is_true (one_of (codes "decide") (rows_of (found_of matches.now)))
+        then Some (number_or 100000 (one_of (codes "effort") (rows_of (found_of matches.now)))) else None) }
 {
     if is_used(matches, "decide") {
         Some(effort(matches))

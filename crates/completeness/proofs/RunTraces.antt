@@ -1,17 +1,15 @@
 -- The traces of a program's complete runs, and the traces of complete runs that are traces of the program.
-use Rattle.std.proofs.Common.{◌≡◌, ◌∙◌, sym, ap, refl, subst, ℕ, zero, suc, ◌+◌, ◌<◌, ◌≤◌, List, [], ◌∷◌, length, map, get_or, arith}
+use Rattle.std.proofs.Common.{◌≡◌, ◌∙◌, sym, ap, refl, subst, ℕ, zero, suc, ◌+◌, ◌≤◌, List, [], ◌∷◌, length, map, get_or, arith}
 use Rattle.std.proofs.lemmas.Bool.{ne_eqb}
 use Rattle.std.proofs.lemmas.List.{length-map}
 use Rattle.std.proofs.Math.ListN.{get_or-map}
-use Rattle.std.specs.List.{AllByRecursion}
-use Rattle.tso_ops.specs.declared.ops.Outcome.{Outcome}
 use Rattle.tso_ops.specs.declared.settings.Order.TheVariants.{Tso}
 use Rattle.tso_ops.specs.Events.{processor_count}
 use Rattle.tso_ops.specs.Limits.{IsTrace}
-use Rattle.tso_ops.specs.Values.{ProgramValue, TraceValue, list_count, op_of, ops_at, program_of}
+use Rattle.tso_ops.specs.Values.{ProgramValue, TraceValue, list_count, op_of, program_of}
 use Rattle.tso_model.specs.Axioms.{IsConsistent}
 use Rattle.unit_core.specs.declared.steps.Step.{Step}
-use Rattle.unit_core.specs.Machine.{HasProcessors, IsCompleteRun, lists_from, outcome_for, outcomes_of, proc_of, trace_of}
+use Rattle.unit_core.specs.Machine.{HasProcessors, IsCompleteRun, lists_from, outcomes_of, proc_of, trace_of}
 use Rattle.unit_core.specs.Records.{AreOpsOf}
 use Rattle.unit_core.proofs.OutcomeFacts.{length-lists_from}
 use Rattle.completeness.specs.RecordedTraces.{IsTraceOfRun}

@@ -11,5 +11,6 @@ ghost use Rattle.final_states.specs.FinalStates.{IsRunTrace};
 /// within the limits has such an order exactly if some complete run of the program leaves it.
 pub fn outcomes_are_consistent_traces()
     ensures consistent { (program : ProgramValue) (t : TraceValue) → IsRunTrace program t → IsConsistent t }
-    ensures exactly { (program : ProgramValue) (t : TraceValue) → program.setting.order ≡ Tso → IsTrace t → program_of t ≡ program → IsRunTrace program t ↔ IsConsistent t }
+    ensures exactly { (program : ProgramValue) (t : TraceValue) → program.setting.order ≡ Tso → IsTrace t → program_of t ≡ program →
+        IsRunTrace program t ↔ IsConsistent t }
 {}

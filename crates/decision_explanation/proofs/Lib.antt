@@ -1,7 +1,6 @@
 pub mod CertificateFacts
 pub mod ClaimFacts
 pub mod InForceFacts
-pub mod MarkFacts
 pub mod PlaceFacts
 pub mod PartFacts
 pub mod TextFacts

@@ -1,6 +1,6 @@
 -- The text that explains a refutation by cases.
 use Rattle.std.specs.Prelude.{ℕ, Bool, List, [], ◌∷◌, ◌++◌, codes}
-use Rattle.std.specs.List.{filter, flat_map, list_any}
+use Rattle.std.specs.List.{filter, flat_map}
 use Rattle.std.specs.Fmt.{decimal}
 use Rattle.tso_ops.specs.declared.settings.Order.{Order}
 use Rattle.tso_ops.specs.Values.{TraceValue}
@@ -12,7 +12,7 @@ use Rattle.trace_explanation.specs.Explanations.{model_name, order_sentences}
 use Rattle.trace_explanation.specs.Names.{event_numbers}
 use Rattle.trace_explanation.specs.Namings.{name_text, naming_of}
 use Rattle.trace_explanation.specs.Places.{place_text}
-use Rattle.trace_explanation.specs.Steps.{is_among, links_of, step_numbers}
+use Rattle.trace_explanation.specs.Steps.{is_named, links_of, step_numbers}
 use Rattle.decision_explanation.specs.declared.in_force.NumberedPair.{NumberedPair}
 use Rattle.decision_explanation.specs.InForce.{standing_after, beginning, case_number, pair_number, Standing}
 use Rattle.decision_explanation.specs.Reasons.{reason_text}
@@ -75,14 +75,10 @@ line_numbers t (Case u v) = u ∷ v ∷ []
 line_numbers t (Else u v) = []
 line_numbers t (Cycle cycle) = []
 
--- one of the lines names event n
-unfoldable pub is_named_by_lines : TraceValue → List RefutationLine → ℕ → Bool
-is_named_by_lines t lines n = list_any (λ line. is_among n (line_numbers t line)) lines
-
 -- ---- the explanation
 
 -- the explanation of a refutation by its lines, and where the events stand that they name
 unfoldable pub cases_text : TraceValue → List RefutationLine → List ℕ
 cases_text t lines =
     cases_head t.setting.order ++ refutation_lines_text t beginning lines
-    ++ codes "The events named above, by their lines in the trace:\n\n" ++ flat_map (place_text (naming_of t) t) (filter (is_named_by_lines t lines) (event_numbers t))
+    ++ codes "The events named above, by their lines in the trace:\n\n" ++ flat_map (place_text (naming_of t) t) (filter (is_named (line_numbers t) lines) (event_numbers t))

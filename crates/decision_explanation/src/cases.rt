@@ -8,7 +8,7 @@ ghost use Rattle.decision_explanation.specs.InForce.{beginning, case_number};
 ghost use Rattle.decision_explanation.specs.Internal.Standings.{IsKept, standing_of};
 
 use crate::in_force::InForce;
-use crate::marks::list_named;
+use crate::marks::EventsOfLines;
 use crate::named::NamedEvents;
 use crate::reasons::reason_in_force;
 use std::alloc::{AllocError, Global};
@@ -32,7 +32,12 @@ pub(crate) fn push_cases(
     push_head(text, trace.order())?;
     push_lines(alloc, text, &named, lines)?;
     text.push_str("The events named above, by their lines in the trace:\n\n")?;
-    push_places(alloc, text, &named, &list_named(alloc, trace, lines)?)
+    push_places(
+        alloc,
+        text,
+        &named,
+        &list_named(alloc, &EventsOfLines, trace, lines)?,
+    )
 }
 
 /// Appends the lines of these events in the trace.
@@ -127,7 +132,8 @@ fn push_step(
     step: &CertStep,
 ) -> Result<(), AllocError>
     requires { IsKept state.now }
-    ensures { OnOk result (string_bytes text.new ≡ string_bytes text.old ++ refutation_step_text named.now (standing_of state.now).pairs (standing_of state.now).next step.now) }
+    ensures { OnOk result (string_bytes text.new ≡ string_bytes text.old ++ refutation_step_text named.now (standing_of state.now).pairs
+        (standing_of state.now).next step.now) }
 {
     let number = state.next();
     let from = named.name(step.from as usize);
@@ -162,7 +168,8 @@ fn push_else(
     state: &InForce,
     events: (usize, usize),
 ) -> Result<(), AllocError>
-    ensures { OnOk result (string_bytes text.new ≡ string_bytes text.old ++ else_text named.now (standing_of state.now).next (case_number (standing_of state.now).cases) events.0 events.1) }
+    ensures { OnOk result (string_bytes text.new ≡ string_bytes text.old ++ else_text named.now (standing_of state.now).next
+        (case_number (standing_of state.now).cases) events.0 events.1) }
 {
     let number = state.next();
     let case = state.case_number();

@@ -16,7 +16,8 @@ ghost use Rattle.decision_explanation.specs.InForce.{standing_after, after_lines
 
 /// In an order that meets the axioms each load has a source, which its line names, and what the line says of it is true.
 pub fn entries_are_true()
-    ensures { (t : TraceValue) (order : List ℕ) → IsTrace t → IsModelOrder t order → (l : ℕ) → IsLoad t l → (s : ℕ) × (source_of t l ≡ Some s) × EntrySays t order l s }
+    ensures { (t : TraceValue) (order : List ℕ) → IsTrace t → IsModelOrder t order → (l : ℕ) → IsLoad t l →
+        (s : ℕ) × (source_of t l ≡ Some s) × EntrySays t order l s }
 {}
 
 /// In the second part of a case the lines are in force that were so before the case, and the part's own: no line of the first
@@ -24,7 +25,8 @@ pub fn entries_are_true()
 /// which is the one that the text of the second part names.
 pub fn second_parts_forget_first_parts()
     ensures { (s : Standing) (u v : ℕ) (first : Refutation) → let inside = after_lines (standing_after s (Case u v)) (lines_of first) in
-        (case_number inside.cases ≡ s.next) × ((standing_after inside (Else v u)).pairs ≡ record { number = inside.next; from = v; to = u } ∷ s.pairs) × ((standing_after inside (Else v u)).cases ≡ s.cases) }
+        (case_number inside.cases ≡ s.next) × ((standing_after inside (Else v u)).pairs ≡ record { number = inside.next; from = v; to = u } ∷ s.pairs) ×
+        ((standing_after inside (Else v u)).cases ≡ s.cases) }
 {}
 
 /// Evidence that is a certificate has that certificate's explanation, and no other evidence has one.

@@ -58,7 +58,8 @@ fn push_entries(
     order: &PlacedOrder<'_>,
 ) -> Result<(), AllocError>
     requires { ArePlacesIn named.now order.now }
-    ensures { OnOk result (string_bytes text.new ≡ string_bytes text.old ++ flat_map (λ n. entry_text named.now order.now.numbers.now n.0 n.1) (enumerate_from 1 order.now.numbers.now)) }
+    ensures { OnOk result (string_bytes text.new ≡ string_bytes text.old ++ flat_map (λ n. entry_text named.now order.now.numbers.now n.0 n.1)
+        (enumerate_from 1 order.now.numbers.now)) }
 {
     for k in 0..order.numbers.len() {
         push_entry(alloc, text, named, order, k + 1, order.numbers[k] as usize)?;

@@ -58,7 +58,8 @@ fn by_words(alloc: Global, state: &InForce, path: &[u64]) -> Result<String, Allo
 /// Appends the numbers of the edges from `y` along these numbers, each after a comma.
 fn push_more(text: &mut String, state: &InForce, y: u64, rest: &[u64]) -> Result<(), AllocError>
     requires { IsKept state.now }
-    ensures { OnOk result (string_bytes text.new ≡ string_bytes text.old ++ flat_map (λ edge. codes ", " ++ decimal (pair_number (standing_of state.now).pairs edge)) (zip (y ∷ rest.now) rest.now)) }
+    ensures { OnOk result (string_bytes text.new ≡ string_bytes text.old ++
+        flat_map (λ edge. codes ", " ++ decimal (pair_number (standing_of state.now).pairs edge)) (zip (y ∷ rest.now) rest.now)) }
 {
     let mut previous = y;
     for z in rest {

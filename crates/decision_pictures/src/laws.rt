@@ -16,12 +16,14 @@ ghost use Rattle.decision_pictures.specs.Pictures.{evidence_picture};
 /// trace alone, with a caption that names the command that prints the cases.
 pub fn pictures_of_certificates()
     ensures certificates { (t : TraceValue) (c : Certificate) → evidence_picture t (evidence_of c) ≡ picture_text t (Some c) }
-    ensures others { (t : TraceValue) (lines : List RefutationLine) → ((c : Certificate) → Refutation lines ≢ evidence_of c) → evidence_picture t (Refutation lines) ≡ numbered_picture t [] Refuted }
+    ensures others { (t : TraceValue) (lines : List RefutationLine) → ((c : Certificate) → Refutation lines ≢ evidence_of c) →
+        evidence_picture t (Refutation lines) ≡ numbered_picture t [] Refuted }
 {}
 
 /// A number that stands at most once in an order has there the number k where it is the kth. So each event has its place in an
 /// order of the trace's model.
 pub fn numbers_are_places()
     ensures places { (order : List ℕ) (n k : ℕ) → occurrences n order ≤ 1 → (number_in_order order n ≡ Some (suc k)) ↔ (slice_get order k ≡ Some n) }
-    ensures model { (t : TraceValue) (order : List ℕ) (n k : ℕ) → IsModelOrder t order → IsEvent t n → (number_in_order order n ≡ Some (suc k)) ↔ (slice_get order k ≡ Some n) }
+    ensures model { (t : TraceValue) (order : List ℕ) (n k : ℕ) → IsModelOrder t order → IsEvent t n →
+        (number_in_order order n ≡ Some (suc k)) ↔ (slice_get order k ≡ Some n) }
 {}

@@ -1,6 +1,6 @@
 //! Pictures as a rendering of decisions.
 ghost use Rattle.std.specs.Prelude.{◌≡◌, ◌++◌, refl, string_bytes, OnOk};
-ghost use Rattle.trace_reports.specs.Reports.{refusal_shown};
+ghost use Rattle.trace_reports.specs.Reports.{rendered_refusal};
 ghost use Rattle.decision_pictures.specs.Pictured.{decision_pictured};
 
 use crate::pictures::{draw_evidence, draw_undecided};
@@ -17,7 +17,7 @@ pub struct AsDecisionPicture;
 impl Rendering<Trace, Decision> for AsDecisionPicture {
     ghost rendered = { λ form. decision_pictured };
 
-    ghost refused = { λ form. refusal_shown };
+    ghost refused = { λ form. rendered_refusal };
 
     fn text_of_found(
         &self,

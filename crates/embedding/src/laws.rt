@@ -14,12 +14,14 @@ ghost use Rattle.embedding.specs.RunOrder.{memory_order_of};
 pub fn complete_runs_have_orders()
     ensures order { (setting : SettingValue) (count : ℕ) (steps : List Step) (run : IsCompleteRun setting count steps) →
         IsModelOrder (trace_of setting count steps) (memory_order_of count run.memory steps) }
-    ensures consistent { (setting : SettingValue) (count : ℕ) (steps : List Step) → IsCompleteRun setting count steps → IsConsistent (trace_of setting count steps) }
+    ensures consistent { (setting : SettingValue) (count : ℕ) (steps : List Step) → IsCompleteRun setting count steps →
+        IsConsistent (trace_of setting count steps) }
 {}
 
 /// The trace of a complete run is no violation: it has no unwritten load, and, where it keeps the limits of traces, its derived order has no cycle.
 pub fn complete_runs_are_never_violations()
-    ensures written { (setting : SettingValue) (count : ℕ) (steps : List Step) (l : ℕ) → IsCompleteRun setting count steps → IsUnwritten (trace_of setting count steps) l → ⊥ }
+    ensures written { (setting : SettingValue) (count : ℕ) (steps : List Step) (l : ℕ) → IsCompleteRun setting count steps →
+        IsUnwritten (trace_of setting count steps) l → ⊥ }
     ensures derived { (setting : SettingValue) (count : ℕ) (steps : List Step) → IsCompleteRun setting count steps → IsTrace (trace_of setting count steps) →
         HasDerivedCycle (trace_of setting count steps) → ⊥ }
 {}

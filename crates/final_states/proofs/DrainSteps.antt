@@ -15,7 +15,7 @@ use Rattle.tso_ops.proofs.EventFacts.{each-at}
 use Rattle.tso_ops.proofs.PlaceFacts.{get-left, get-split}
 use Rattle.unit_core.specs.declared.steps.Step.{Step}
 use Rattle.unit_core.specs.declared.steps.Step.TheVariants.{Store, Drain, DrainAt, Load, Swap, Membar, Stbar}
-use Rattle.unit_core.specs.Machine.{Entry, IsAllowed, State, WaitsFirst, buffer_of, next, oldest_of, outcome_of, proc_of, stbars_of}
+use Rattle.unit_core.specs.Machine.{Entry, IsAllowed, State, buffer_of, next, oldest_of, outcome_of, proc_of, stbars_of}
 use Rattle.unit_core.specs.Machine as machine
 use Rattle.final_states.specs.Internal.Words.{after_drain, drained, entry_of, issued_by, issued_ops, marked_ops, outcomes_with, passes, passes_all, stbars_in, waiting, waiting_at}
 use Rattle.final_states.specs.Internal.Stands.{CanHave, HasPlaces, IsRow, Represents}

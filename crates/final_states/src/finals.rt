@@ -1,6 +1,6 @@
 //! The final states of a program.
 
-ghost use Rattle.std.specs.Prelude.{◌≡◌, ◌≤◌, ◌<◌, ◌^◌, ℕ, List, All, IfOk, IfErr, OnOk, filter, length, map};
+ghost use Rattle.std.specs.Prelude.{◌≡◌, ◌≤◌, ◌<◌, All, IfOk, IfErr, OnOk, filter, length, map};
 ghost use Rattle.std.specs.List.{flat_map, zip};
 ghost use Rattle.tso_ops.specs.Limits.{IsTrace};
 ghost use Rattle.tso_ops.specs.Values.{list_count, outcomes_in_file_order, rows, ReadFits};

@@ -109,7 +109,8 @@ fn mark_for(program: &Program, plan: &Plan, words: &[u64], op: Op, ops: &[Op], m
     requires width { HaveWidth program.now plan.now words.now }
     requires address { (a : ℕ) → address_of op ≡ Some a → a < 256 }
     requires marks { length ops.now ≤ length marks.now }
-    ensures { (p : ℕ) → waiting 0 (zip ops.now marks.now) ≡ buffer_in program.now words.now p → result ≡ mark_for program.now plan.now.addresses.items words.now p op }
+    ensures { (p : ℕ) → waiting 0 (zip ops.now marks.now) ≡ buffer_in program.now words.now p →
+        result ≡ mark_for program.now plan.now.addresses.items words.now p op }
 {
     match op {
         Op::Ld { a } => read_value(ops, marks, a, value_at(program, plan, words, a)),

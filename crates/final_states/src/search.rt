@@ -21,7 +21,8 @@ pub(crate) fn reached_words(
 ) -> Result<IndexSet<Vec<u64>>, StatesFault>
     requires { IsPlanOf program.now plan.now }
     ensures found { IfOk result (λ s. IsSearched program.now plan.now.addresses.items limit (rows s.keys)) }
-    ensures refused { IfErr result (λ why. why ≡ StatesFault.TooManyStates → (found : List (List ℕ)) × IsPastLimit program.now plan.now.addresses.items limit found) }
+    ensures refused { IfErr result (λ why. why ≡ StatesFault.TooManyStates → (found : List (List ℕ)) ×
+        IsPastLimit program.now plan.now.addresses.items limit found) }
 {
     let mut reached = IndexSet::new(alloc);
     add(&mut reached, first_words(alloc, program, plan)?, limit)?;

@@ -1,6 +1,6 @@
-ghost use Rattle.std.specs.Prelude.{◌≡◌, ◌<◌, Decides, Some, length, map, slice_get};
+ghost use Rattle.std.specs.Prelude.{◌≡◌, ◌<◌, Decides, Some, map, slice_get};
 ghost use Rattle.issue_desk.specs.Finishing.{Agrees, ArePassesOf, AnswersCompare, IsFirstTorn};
-ghost use Rattle.tso_ops.specs.Values.{list_count, op_of, ops_at};
+ghost use Rattle.tso_ops.specs.Values.{list_count, op_of};
 ghost use Rattle.unit_core.specs.Machine.{outcomes_of};
 
 use crate::faults::RunFault;

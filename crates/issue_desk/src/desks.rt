@@ -30,7 +30,8 @@ impl<U: MemoryUnit> Model for Desk<U> {
 
     ghost view = { λ d. record { program = d.program; unit = U.value_of d.unit } };
 
-    ghost invariant = { λ d. IsDesk (record { program = d.program; unit = U.value_of d.unit }) × CountsIssued (record { program = d.program; unit = U.value_of d.unit }) d.issued.items };
+    ghost invariant = { λ d. IsDesk (record { program = d.program; unit = U.value_of d.unit }) ×
+        CountsIssued (record { program = d.program; unit = U.value_of d.unit }) d.issued.items };
 }
 
 impl<U: MemoryUnit> Desk<U> {

@@ -111,7 +111,8 @@ fn joined_passes(
     own: Result<Pass, OutOfMemory>,
     rest: Result<Vec<Pass>, RunFault>,
 ) -> Result<Vec<Pass>, RunFault>
-    ensures { (p count : ℕ) → IfOk own (λ pass. pass.processor ≡ p) → IfOk rest (λ passes. ArePassesFrom (p + 1) count passes.items) → IfOk result (λ passes. ArePassesFrom p (count + 1) passes.items) }
+    ensures { (p count : ℕ) → IfOk own (λ pass. pass.processor ≡ p) → IfOk rest (λ passes. ArePassesFrom (p + 1) count passes.items) →
+        IfOk result (λ passes. ArePassesFrom p (count + 1) passes.items) }
 {
     let mut passes = vec![in alloc; own?]?;
     passes.append(&mut rest?)?;

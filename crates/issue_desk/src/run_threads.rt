@@ -1,5 +1,5 @@
 //! The threads of a run: its issuers, and a drainer beside them.
-ghost use Rattle.std.specs.Prelude.{◌≡◌, ◌≤◌, ◌<◌, IfOk};
+ghost use Rattle.std.specs.Prelude.{◌≤◌, ◌<◌, IfOk};
 ghost use Rattle.issue_desk.specs.Internal.Passes.{ArePassesFrom};
 
 use crate::drainers::{passes_beside, start_drainer};

@@ -1,6 +1,6 @@
 //! The forms in which is rendered what was found in a log: as lines, as lines with explanations, or as traces.
 ghost use Rattle.std.specs.Prelude.{refl};
-ghost use Rattle.trace_reports.specs.Reports.{refusal_shown};
+ghost use Rattle.trace_reports.specs.Reports.{rendered_refusal};
 ghost use Rattle.log_reports.specs.LogRefusals.{log_refusal_explained, log_refusal_whole};
 ghost use Rattle.log_reports.specs.LogTexts.{log_explained, log_lines, log_traces};
 
@@ -42,7 +42,7 @@ pub struct AsLogTraces;
 impl Rendering<KnownLog, LogFound> for AsLogLines {
     ghost rendered = { λ _. log_lines };
 
-    ghost refused = { λ _. refusal_shown };
+    ghost refused = { λ _. rendered_refusal };
 
     fn text_of_found(
         &self,
@@ -96,7 +96,7 @@ impl Rendering<KnownLog, LogFound> for AsExplainedLog {
 impl Rendering<KnownLog, LogFound> for AsLogTraces {
     ghost rendered = { λ _. log_traces };
 
-    ghost refused = { λ _. refusal_shown };
+    ghost refused = { λ _. rendered_refusal };
 
     fn text_of_found(
         &self,

@@ -1,5 +1,5 @@
 //! What reports on logs say.
-ghost use Rattle.std.specs.Prelude.{◌≡◌, ℕ, List};
+ghost use Rattle.std.specs.Prelude.{ℕ, List};
 ghost use Rattle.tso_model.specs.Axioms.{IsConsistent};
 ghost use Rattle.log_text.specs.LogTexts.{SpellsLog};
 ghost use Rattle.log_text.specs.LogValues.{NumberedLog, log_operations};

@@ -1,5 +1,5 @@
 //! The operations of a log that a trace has.
-ghost use Rattle.std.specs.Prelude.{◌≡◌, ◌++◌, ◌∷◌, [], ℕ, List, map, true, length, IfOk, IfSome, OnOk, Some, slice_get};
+ghost use Rattle.std.specs.Prelude.{◌≡◌, ◌++◌, ◌∷◌, [], map, true, IfOk, IfSome, OnOk, Some, slice_get};
 ghost use Rattle.tso_ops.specs.Values.{rows};
 ghost use Rattle.log_selections.specs.Cuts.{AreCutFrom, IsKept};
 ghost use Rattle.log_text.specs.LogValues.{logged_outcome, logged_outcomes};

@@ -22,9 +22,9 @@ use Rattle.log_text.specs.declared.logs.Log.{Log}
 use Rattle.log_text.specs.declared.logs.LogOperation.{LogOperation}
 use Rattle.log_text.specs.declared.logs.LoggedOperation.{LoggedOperation}
 use Rattle.log_text.specs.declared.readings.Reading.{Reading}
-use Rattle.log_text.specs.LogTexts.{order_of, entries_in, unknown_in, issued_in, issued_from, is_end, is_issued, is_not_below, processors_to, processors_in, fault_after, fault_among, is_operation_at, without_addresses, log_of_lines}
+use Rattle.log_text.specs.LogTexts.{order_of, entries_in, unknown_in, issued_in, issued_from, is_end, is_issued, is_not_below, processors_to, processors_in, fault_among, is_operation_at, without_addresses, log_of_lines}
 use Rattle.log_text.specs.LogValues.{NumberedLog, log_value}
-use Rattle.log_text.specs.Internal.Readings.{has_not_below, IsLastGreatest, HoldsLines, IsNext, IsNextAmong, IsAccepted, IsAcceptedAmong, IsRefused, IsRefusedAmong}
+use Rattle.log_text.specs.Internal.Readings.{has_not_below, IsLastGreatest, HoldsLines, IsNextAmong, IsAccepted, IsAcceptedAmong, IsRefused, IsRefusedAmong}
 
 or_true : (b : Bool) → (b || true) ≡ true
 or_true true = refl

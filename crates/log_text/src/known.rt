@@ -13,7 +13,10 @@ use tso_ops::OutOfMemory;
 
 /// The log without its operations at these addresses, and with how many they are.
 pub(crate) fn leave_out(alloc: Global, log: Log, addresses: &[u64]) -> Result<Log, OutOfMemory>
-    ensures { IfOk result (λ left. log_value left ≡ record (log_value log) { lists = map (without_addresses addresses.now) (rows log.lists.items); left_out = sum_by (count_by (is_operation_at addresses.now)) (rows log.lists.items) }) }
+    ensures { IfOk result (λ left. log_value left ≡ record (log_value log) {
+      lists = map (without_addresses addresses.now) (rows log.lists.items);
+      left_out = sum_by (count_by (is_operation_at addresses.now)) (rows log.lists.items);
+    }) }
 {
     let addresses = set_of(alloc, addresses)?;
     let mut lists = Vec::new(alloc);

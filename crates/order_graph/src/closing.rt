@@ -116,7 +116,8 @@ pub fn closes_within(
     requires within { start < tables.nodes }
     requires sized { length passed.now ≡ tables.width }
     requires passed { (y : ℕ) → y / 64 < tables.width → IsSet passed.now tables.width 0 y ↔ (y < start) }
-    ensures { IfOk result (λ closes. IsTrue closes ⊎ NoShorterOpen tables.entry.edges.now tables.entry.transposed.now tables.entry.width tables.entry.nodes start limit) }
+    ensures { IfOk result (λ closes. IsTrue closes ⊎ NoShorterOpen tables.entry.edges.now tables.entry.transposed.now tables.entry.width tables.entry.nodes
+        start limit) }
 {
     let width = tables.width;
     let edges = BitTable {

@@ -35,7 +35,8 @@ pub fn may_be_shorter(
     requires within { start < tables.nodes }
     requires sized { length passed.now ≡ tables.width }
     requires passed { (y : ℕ) → y / 64 < tables.width → IsSet passed.now tables.width 0 y ↔ (y < start) }
-    ensures { IfOk result (λ may. IsTrue may ⊎ IsSomeAnd limit (NoShorterOpen tables.entry.edges.now tables.entry.transposed.now tables.entry.width tables.entry.nodes start)) }
+    ensures { IfOk result (λ may. IsTrue may ⊎ IsSomeAnd limit
+        (NoShorterOpen tables.entry.edges.now tables.entry.transposed.now tables.entry.width tables.entry.nodes start)) }
 {
     match limit {
         Some(most) => closes_within(alloc, tables, passed, start, most),
@@ -62,7 +63,8 @@ pub fn better(
         IsClosedNumber tables.edges.now tables.transposed.now tables.width tables.nodes y }
     requires best { MatchOption best (NoCycleBefore (Joined tables.edges.now tables.width tables.nodes) start)
         (λ cycle. IsLeastCycleBefore (Joined tables.edges.now tables.width tables.nodes) start cycle.items) }
-    ensures { IfOk result (λ found. MatchOption found (NoCycleBefore (Joined tables.entry.edges.now tables.entry.width tables.entry.nodes) (start + 1)) (λ cycle. IsLeastCycleBefore (Joined tables.entry.edges.now tables.entry.width tables.entry.nodes) (start + 1) cycle.items)) }
+    ensures { IfOk result (λ found. MatchOption found (NoCycleBefore (Joined tables.entry.edges.now tables.entry.width tables.entry.nodes) (start + 1))
+        (λ cycle. IsLeastCycleBefore (Joined tables.entry.edges.now tables.entry.width tables.entry.nodes) (start + 1) cycle.items)) }
 {
     let closed_row = BitTable {
         words: closed,

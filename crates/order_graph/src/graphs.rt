@@ -38,7 +38,8 @@ impl Model for Graph {
 
     ghost view = { λ g. grown_graph_of g.tables.nodes g.tables.width g.tables.edges.items g.grown.items };
 
-    ghost invariant = { λ g. KeepsAllPaths g.tables.nodes g.tables.width g.tables.edges.items g.tables.paths.items g.tables.transposed.items × IsNodeRow g.tables.nodes g.tables.width g.grown.items };
+    ghost invariant = { λ g. KeepsAllPaths g.tables.nodes g.tables.width g.tables.edges.items g.tables.paths.items g.tables.transposed.items ×
+        IsNodeRow g.tables.nodes g.tables.width g.grown.items };
 }
 
 impl Graph {

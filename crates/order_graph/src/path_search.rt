@@ -1,6 +1,6 @@
 //! What a search over edges answers, whichever type keeps them.
 
-ghost use Rattle.std.specs.Prelude.{◌≡◌, ◌↔◌, ◌<◌, ◌^◌, ℕ, false, IsTrue, IfOk, MatchOption, length, slice_index_or};
+ghost use Rattle.std.specs.Prelude.{◌≡◌, ◌↔◌, ◌<◌, ℕ, false, IsTrue, IfOk, MatchOption, length, slice_index_or};
 ghost use Rattle.order_paths.specs.Paths.{Reaches, IsLeastPath};
 ghost use Rattle.order_graph.specs.Digraphs.{Digraph, IsEdge, EdgesWithin};
 

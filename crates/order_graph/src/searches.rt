@@ -1,8 +1,8 @@
 //! The least way from one number to another, level by level.
 
-ghost use Rattle.std.specs.Prelude.{◌≡◌, ◌↔◌, ◌<◌, ◌≤◌, ◌+◌, ◌*◌, ◌/◌, ◌^◌, ℕ, IsTrue, IfOk, MatchOption, IsSomeAnd, IfSome, length};
+ghost use Rattle.std.specs.Prelude.{◌≡◌, ◌↔◌, ◌<◌, ◌≤◌, ◌+◌, ◌*◌, ◌/◌, ℕ, IsTrue, IfOk, MatchOption, IsSomeAnd, IfSome, length};
 ghost use Rattle.order_paths.specs.Paths.{Reaches, IsLeastPath};
-ghost use Rattle.bitsets.specs.Tables.{IsSet, Adds, NoneShared, IsFirstShared};
+ghost use Rattle.bitsets.specs.Tables.{IsSet, Adds};
 ghost use Rattle.order_graph.specs.Internal.Tables.{Joined};
 ghost use Rattle.order_graph.specs.Internal.KeptPaths.{Covers};
 ghost use Rattle.order_graph.specs.Internal.Tracks.{IsLevel, IsAboveLevel, IsLeastTrack, NoShorter};
@@ -30,7 +30,8 @@ pub fn is_above(tables: Tables, level: Level, u: usize, v: usize, x: usize) -> b
     requires level { level.count * tables.width + tables.width ≤ length level.levels.now }
     requires end { level.high ≤ tables.width }
     requires used { (y : ℕ) → y / 64 < tables.width → IsSet level.levels.now tables.width level.count y → (level.low ≤ y / 64) × (y / 64 < level.high) }
-    ensures { IsTrue result ↔ IsAboveLevel tables.entry.edges.now tables.entry.paths.now tables.entry.transposed.now level.entry.levels.now tables.entry.width u v level.entry.count x }
+    ensures { IsTrue result ↔ IsAboveLevel tables.entry.edges.now tables.entry.paths.now tables.entry.transposed.now level.entry.levels.now tables.entry.width u
+        v level.entry.count x }
 {
     let width = tables.width;
     let transposed = BitTable {
@@ -137,7 +138,9 @@ pub fn shortest(
     requires from { u < tables.nodes }
     requires to { v < tables.nodes }
     requires path { Reaches (Joined tables.edges.now tables.width tables.nodes) u v }
-    ensures { IfOk result (λ found. MatchOption found (IsSomeAnd limit (NoShorter tables.entry.edges.now tables.entry.width tables.entry.nodes u v)) (λ list. IsLeastTrack (Joined tables.entry.edges.now tables.entry.width tables.entry.nodes) u v list.items × IfSome limit (λ most. length list.items ≤ most))) }
+    ensures { IfOk result (λ found. MatchOption found (IsSomeAnd limit (NoShorter tables.entry.edges.now tables.entry.width tables.entry.nodes u v))
+        (λ list. IsLeastTrack (Joined tables.entry.edges.now tables.entry.width tables.entry.nodes) u v list.items ×
+        IfSome limit (λ most. length list.items ≤ most))) }
 {
     let edges = BitTable {
         words: tables.edges,

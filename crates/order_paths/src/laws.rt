@@ -1,6 +1,6 @@
 //! Laws on paths and cycles, over the pairs of numbers of which a test answers true.
 
-ghost use Rattle.std.specs.Prelude.{◌≡◌, ◌⊎◌, ◌↔◌, ◌<◌, ℕ, Bool, IsTrue, List};
+ghost use Rattle.std.specs.Prelude.{◌≡◌, ◌⊎◌, ◌↔◌, ℕ, Bool, IsTrue, List};
 ghost use Rattle.order_paths.specs.Paths.{Linked, Reaches, HasCycle, IsLeastPath, IsLeastCycle, Passes, IsTestWithin, AreBelow};
 
 /// An edge is a path.
@@ -47,7 +47,8 @@ pub fn paths_are_decided()
 
 /// Where the edges lie below a number, and there is a path, there is one least path.
 pub fn least_path_is_one()
-    ensures exists { (edge : ℕ → ℕ → Bool) (n : ℕ) → AreBelow n edge → (u v : ℕ) → Reaches (Passes edge) u v → (path : List ℕ) × IsLeastPath (Passes edge) u v path }
+    ensures exists { (edge : ℕ → ℕ → Bool) (n : ℕ) → AreBelow n edge → (u v : ℕ) → Reaches (Passes edge) u v →
+        (path : List ℕ) × IsLeastPath (Passes edge) u v path }
     ensures unique { (edge : ℕ → ℕ → Bool) (u v : ℕ) (path other : List ℕ) →
         IsLeastPath (Passes edge) u v path → IsLeastPath (Passes edge) u v other → path ≡ other }
 {}

@@ -48,8 +48,8 @@ pub record IsRefusedByStates (limit : ℕ) (program : ProgramValue) (text : List
   pub refused : verdict ≡ Refused
 
 -- What is said of the program that bytes spell, or the line of their refusal.
-abbrev pub IsSaidOfProgram : (ProgramValue → List ℕ → Answer → Type 0) → List ℕ → List ℕ → Answer → Type 0
-IsSaidOfProgram Says bytes text verdict =
+abbrev pub IsWrittenOfProgram : (ProgramValue → List ℕ → Answer → Type 0) → List ℕ → List ℕ → Answer → Type 0
+IsWrittenOfProgram Says bytes text verdict =
     ((program : ProgramValue) × SpellsProgram bytes program × Says program text verdict)
     ⊎ ((line : ℕ) × (why : Why) × IsProgramRefusal bytes line why × (text ≡ refusal_text line why) × (verdict ≡ Refused))
 
@@ -60,4 +60,4 @@ IsOutcomes options program text verdict =
 
 -- what is printed of the outcomes of the program that a reader has
 abbrev pub IsOutcomesOfReader : OutcomeOptions → Option (List ℕ) → List ℕ → Answer → Type 0
-IsOutcomesOfReader options programs text verdict = ReadsAs programs (λ bytes. IsSaidOfProgram (IsOutcomes options) bytes text verdict)
+IsOutcomesOfReader options programs text verdict = ReadsAs programs (λ bytes. IsWrittenOfProgram (IsOutcomes options) bytes text verdict)

@@ -12,7 +12,7 @@ use Rattle.trace_reports.specs.declared.answers.Answer.{Answer}
 use Rattle.trace_reports.specs.declared.answers.Answer.TheVariants.{Clear, Refused, Undecided, Violation}
 use Rattle.text_streams.specs.Readings.{ReadsAs}
 use Rattle.final_states.specs.FinalStates.{IsRunTrace}
-use Rattle.outcome_reports.specs.Outcomes.{AreTracesOf, IsRefusedByStates, IsSaidOfProgram}
+use Rattle.outcome_reports.specs.Outcomes.{AreTracesOf, IsRefusedByStates, IsWrittenOfProgram}
 use Rattle.outcome_reports.specs.StateLines.{reads_line}
 use Rattle.outcome_reports.specs.declared.classes.TraceClass.{TraceClass}
 use Rattle.outcome_reports.specs.declared.classes.TraceClass.TheVariants.{Reached, Unreached, Foreign}
@@ -99,4 +99,4 @@ IsSeenOf limit streams program text verdict = ReadsAs streams (λ stream. Counts
 
 -- what is printed of what two readers have, a program and a stream
 abbrev pub IsSeenOfReaders : ℕ → Option (List ℕ) → Option (List ℕ) → List ℕ → Answer → Type 0
-IsSeenOfReaders limit programs streams text verdict = ReadsAs programs (λ bytes. IsSaidOfProgram (IsSeenOf limit streams) bytes text verdict)
+IsSeenOfReaders limit programs streams text verdict = ReadsAs programs (λ bytes. IsWrittenOfProgram (IsSeenOf limit streams) bytes text verdict)

@@ -33,7 +33,8 @@ pub(crate) fn class_of_text(
     keys: &[Vec<u64>],
     piece: &[u8],
 ) -> Result<TraceClass, Fault>
-    ensures class { IfOk result (λ class. (traces : List TraceValue) → AreTracesOf program.now traces → rows keys.now ≡ map values_read traces → IsClassOfText program.now traces piece.now class) }
+    ensures class { IfOk result (λ class. (traces : List TraceValue) → AreTracesOf program.now traces → rows keys.now ≡ map values_read traces →
+        IsClassOfText program.now traces piece.now class) }
     ensures within { IfOk result (IsWithin (length keys.now)) }
     ensures fault { IfErr result (λ fault. fault ≡ Fault.OutOfMemory) }
 {
@@ -55,7 +56,8 @@ fn class_of_trace(
     keys: &[Vec<u64>],
     trace: &Trace,
 ) -> Result<TraceClass, OutOfMemory>
-    ensures class { IfOk result (λ class. (traces : List TraceValue) → AreTracesOf program.now traces → rows keys.now ≡ map values_read traces → IsClassOfTrace program.now traces trace.now class) }
+    ensures class { IfOk result (λ class. (traces : List TraceValue) → AreTracesOf program.now traces → rows keys.now ≡ map values_read traces →
+        IsClassOfTrace program.now traces trace.now class) }
     ensures within { IfOk result (IsWithin (length keys.now)) }
 {
     if !is_of_program(alloc, program, trace)? {

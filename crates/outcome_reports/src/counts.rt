@@ -40,7 +40,8 @@ impl SeenCounts {
     /// Counts what a trace text is. Read where there were 2^64 - 1 of these before.
     pub(crate) fn count(&mut self, class: TraceClass) -> Result<(), Fault>
         requires { IsWithin (length self.old.seen.items) class }
-        ensures counted { OnOk result ((count : ℕ) (classes : List TraceClass) → CountsOf count classes self.old → CountsOf count (classes ++ class ∷ []) self.new) }
+        ensures counted { OnOk result ((count : ℕ) (classes : List TraceClass) → CountsOf count classes self.old →
+            CountsOf count (classes ++ class ∷ []) self.new) }
         ensures wide { length self.new.seen.items ≡ length self.old.seen.items }
         ensures fault { IfErr result (λ fault. fault ≡ Fault.Read) }
     {
@@ -63,7 +64,8 @@ impl SeenCounts {
 
     /// How many of the traces were seen.
     fn seen_traces(&self) -> usize
-        ensures { (classes : List TraceClass) → CountsOf (length self.now.seen.items) classes self.now → result ≡ seen_count classes 0 (length self.now.seen.items) }
+        ensures { (classes : List TraceClass) → CountsOf (length self.now.seen.items) classes self.now →
+            result ≡ seen_count classes 0 (length self.now.seen.items) }
     {
         count_some(&self.seen)
     }
@@ -88,7 +90,8 @@ impl SeenCounts {
         traces: &[Vec<Vec<Outcome>>],
     ) -> Result<String, AllocError>
         requires { length self.now.seen.items ≡ length traces.now }
-        ensures { IfOk result (λ text. (setting : SettingValue) (classes : List TraceClass) → CountsOf (length traces.now) classes self.now → string_bytes text ≡ seen_text order (traces_by setting traces.now) classes) }
+        ensures { IfOk result (λ text. (setting : SettingValue) (classes : List TraceClass) → CountsOf (length traces.now) classes self.now →
+            string_bytes text ≡ seen_text order (traces_by setting traces.now) classes) }
     {
         let count = traces.len();
         let mut text = format!(in alloc; "Traces {count}\n")?;
@@ -104,7 +107,8 @@ impl SeenCounts {
     /// Appends the line of each of these traces.
     fn print_lines(&self, text: &mut String, traces: &[Vec<Vec<Outcome>>]) -> Result<(), AllocError>
         requires { length self.now.seen.items ≡ length traces.now }
-        ensures { OnOk result ((setting : SettingValue) (classes : List TraceClass) → CountsOf (length traces.now) classes self.now → string_bytes text.new ≡ string_bytes text.old ++ count_lines classes 0 (traces_by setting traces.now)) }
+        ensures { OnOk result ((setting : SettingValue) (classes : List TraceClass) → CountsOf (length traces.now) classes self.now →
+            string_bytes text.new ≡ string_bytes text.old ++ count_lines classes 0 (traces_by setting traces.now)) }
     {
         for (k, lists) in traces.iter().enumerate() {
             let count = self.seen[k];

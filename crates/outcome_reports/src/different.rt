@@ -1,5 +1,5 @@
 //! The traces of a program's final states, and their texts.
-ghost use Rattle.std.specs.Prelude.{◌≡◌, Decides, IfOk, Some, map, slice_get, length, ◌-◌, string_bytes};
+ghost use Rattle.std.specs.Prelude.{◌≡◌, Decides, IfOk, Some, map, ◌-◌, string_bytes};
 ghost use Rattle.std.specs.List.{All};
 ghost use Rattle.tso_ops.specs.Limits.{IsTrace};
 ghost use Rattle.tso_ops.specs.Values.{ProgramValue, rows, trace_of_lists};
@@ -20,8 +20,10 @@ pub(crate) fn list_traces(
     alloc: Global,
     states: &[FinalState],
 ) -> Result<Vec<Vec<Vec<Outcome>>>, AllocError>
-    ensures all { IfOk result (λ traces. (program : ProgramValue) → AreFinalStatesOf program (map (state_of program) states.now) → AreTracesOf program (traces_by program.setting traces.items)) }
-    ensures lawful { IfOk result (λ traces. (program : ProgramValue) → All (λ state. IsTrace (state_of program state).trace) states.now → All IsTrace (traces_by program.setting traces.items)) }
+    ensures all { IfOk result (λ traces. (program : ProgramValue) → AreFinalStatesOf program (map (state_of program) states.now) →
+        AreTracesOf program (traces_by program.setting traces.items)) }
+    ensures lawful { IfOk result (λ traces. (program : ProgramValue) → All (λ state. IsTrace (state_of program state).trace) states.now →
+        All IsTrace (traces_by program.setting traces.items)) }
 {
     let mut traces = Vec::new(alloc);
     for state in states {

@@ -1,6 +1,6 @@
 //! The lines of traces and final states: which value each load read, and the last values of memory.
 ghost use Rattle.std.specs.Prelude.{◌≡◌, ◌∷◌, ◌++◌, [], ℕ, List, map, string_bytes, OnOk, IfOk};
-ghost use Rattle.std.specs.List.{filter_map, flat_map};
+ghost use Rattle.std.specs.List.{filter_map};
 ghost use Rattle.tso_ops.specs.Values.{ProgramValue, rows};
 ghost use Rattle.final_states.specs.FinalStates.{state_of, value_read};
 ghost use Rattle.outcome_reports.specs.Internal.PartLines.{GetsParts, IsLineOf};
@@ -62,7 +62,8 @@ fn push_values(
     p: usize,
     outcomes: &[Outcome],
 ) -> Result<(), AllocError>
-    ensures { OnOk result (GetsParts (string_bytes text.old) begun.old (string_bytes text.new) begun.new (value_parts p 0 (filter_map value_read outcomes.now))) }
+    ensures { OnOk result (GetsParts (string_bytes text.old) begun.old (string_bytes text.new) begun.new
+        (value_parts p 0 (filter_map value_read outcomes.now))) }
 {
     let mut number = 0usize;
     for outcome in outcomes {
@@ -115,7 +116,8 @@ fn push_entry(text: &mut String, begun: &mut bool, a: u16, value: u64) -> Result
 
 /// Begins the next part of a line: after a space, where it isn't the first.
 fn begin_part(text: &mut String, begun: &mut bool) -> Result<(), AllocError>
-    ensures { OnOk result ((before part : List ℕ) (parts : List (List ℕ)) → IsLineOf before parts (string_bytes text.old) begun.old → IsLineOf before (parts ++ part ∷ []) (string_bytes text.new ++ part) begun.new) }
+    ensures { OnOk result ((before part : List ℕ) (parts : List (List ℕ)) → IsLineOf before parts (string_bytes text.old) begun.old →
+        IsLineOf before (parts ++ part ∷ []) (string_bytes text.new ++ part) begun.new) }
 {
     if *begun {
         text.push_str(" ")?;

@@ -47,11 +47,14 @@ pub fn count_seen<P: Read, S: Read, W: Write>(
     writer: &mut W,
     limit: u64,
 ) -> Result<Answer, Fault>
-    ensures whole { IfOk result (WritesWhole (IsSeenOfReaders limit (P.remaining programs.old) (S.remaining stream.old)) (W.contents writer.old) (W.contents writer.new)) }
-    ensures fault { IfErr result (LeavesAtFault (IsSeenOfReaders limit (P.remaining programs.old) (S.remaining stream.old)) (W.contents writer.old) (W.contents writer.new)) }
+    ensures whole { IfOk result (WritesWhole (IsSeenOfReaders limit (P.remaining programs.old) (S.remaining stream.old)) (W.contents writer.old)
+        (W.contents writer.new)) }
+    ensures fault { IfErr result (LeavesAtFault (IsSeenOfReaders limit (P.remaining programs.old) (S.remaining stream.old)) (W.contents writer.old)
+        (W.contents writer.new)) }
     ensures no_thread { IfErr result (λ fault. fault ≢ Fault.NoThread) }
     ensures taken { IfOk result (λ _. LosesPrefix trace_read_limit (P.remaining programs.old) (P.remaining programs.new)) }
-    ensures taken_after { IfOk result (λ _. (stream.new ≡ stream.old) ⊎ IfSome (S.remaining stream.old) (λ all. Consumes (S.remaining stream.old) (S.remaining stream.new) all)) }
+    ensures taken_after { IfOk result (λ _. (stream.new ≡ stream.old) ⊎
+        IfSome (S.remaining stream.old) (λ all. Consumes (S.remaining stream.old) (S.remaining stream.new) all)) }
     ensures unread { IfSome (P.remaining programs.old) (λ text. IsRefusedProgram text → stream.new ≡ stream.old) }
 {
     let said = read_seen(alloc, programs, stream, limit)?;
@@ -68,7 +71,8 @@ fn read_seen<P: Read, S: Read>(
 ) -> Result<OutcomeText, Fault>
     ensures said { IfOk result (λ said. IsSeenOfReaders limit (P.remaining programs.old) (S.remaining stream.old) (string_bytes said.text) said.verdict) }
     ensures taken { IfOk result (λ _. LosesPrefix trace_read_limit (P.remaining programs.old) (P.remaining programs.new)) }
-    ensures taken_after { IfOk result (λ _. (stream.new ≡ stream.old) ⊎ IfSome (S.remaining stream.old) (λ all. Consumes (S.remaining stream.old) (S.remaining stream.new) all)) }
+    ensures taken_after { IfOk result (λ _. (stream.new ≡ stream.old) ⊎
+        IfSome (S.remaining stream.old) (λ all. Consumes (S.remaining stream.old) (S.remaining stream.new) all)) }
     ensures unread { IfSome (P.remaining programs.old) (λ text. IsRefusedProgram text → stream.new ≡ stream.old) }
     ensures fault { IfErr result (λ fault. (fault ≡ Fault.OutOfMemory) ⊎ (fault ≡ Fault.Read)) }
 {
@@ -87,7 +91,8 @@ fn seen_of<S: Read>(
     limit: u64,
 ) -> Result<OutcomeText, Fault>
     ensures said { IfOk result (λ said. IsSeenOf limit (S.remaining stream.old) program.now (string_bytes said.text) said.verdict) }
-    ensures taken { IfOk result (λ _. (stream.new ≡ stream.old) ⊎ IfSome (S.remaining stream.old) (λ all. Consumes (S.remaining stream.old) (S.remaining stream.new) all)) }
+    ensures taken { IfOk result (λ _. (stream.new ≡ stream.old) ⊎
+        IfSome (S.remaining stream.old) (λ all. Consumes (S.remaining stream.old) (S.remaining stream.new) all)) }
     ensures fault { IfErr result (λ fault. (fault ≡ Fault.OutOfMemory) ⊎ (fault ≡ Fault.Read)) }
 {
     match final_states(alloc, program, limit) {
@@ -124,8 +129,10 @@ fn print_counts(
     counts: &SeenCounts,
 ) -> Result<OutcomeText, OutOfMemory>
     requires { length counts.now.seen.items ≡ length traces.now }
-    ensures text { IfOk result (λ said. (classes : List TraceClass) → CountsOf (length traces.now) classes counts.now → string_bytes said.text ≡ seen_text program.now.setting.order (traces_by program.now.setting traces.now) classes) }
-    ensures verdict { IfOk result (λ said. (classes : List TraceClass) → CountsOf (length traces.now) classes counts.now → said.verdict ≡ seen_verdict program.now.setting.order classes) }
+    ensures text { IfOk result (λ said. (classes : List TraceClass) → CountsOf (length traces.now) classes counts.now →
+        string_bytes said.text ≡ seen_text program.now.setting.order (traces_by program.now.setting traces.now) classes) }
+    ensures verdict { IfOk result (λ said. (classes : List TraceClass) → CountsOf (length traces.now) classes counts.now →
+        said.verdict ≡ seen_verdict program.now.setting.order classes) }
 {
     let order = program.order();
     Ok(OutcomeText {
@@ -158,7 +165,8 @@ fn count_trace_texts<S: Read>(
     keys: &[Vec<u64>],
     stream: &mut S,
 ) -> Result<SeenCounts, Fault>
-    ensures counts { IfOk result (λ counts. (traces : List TraceValue) → AreTracesOf program.now traces → rows keys.now ≡ map values_read traces → ReadsAs (S.remaining stream.old) (CountsTraceTexts program.now traces counts)) }
+    ensures counts { IfOk result (λ counts. (traces : List TraceValue) → AreTracesOf program.now traces → rows keys.now ≡ map values_read traces →
+        ReadsAs (S.remaining stream.old) (CountsTraceTexts program.now traces counts)) }
     ensures wide { IfOk result (λ counts. length counts.seen.items ≡ length keys.now) }
     ensures taken { IfOk result (λ _. IfSome (S.remaining stream.old) (λ all. Consumes (S.remaining stream.old) (S.remaining stream.new) all)) }
     ensures fault { IfErr result (λ fault. (fault ≡ Fault.OutOfMemory) ⊎ (fault ≡ Fault.Read)) }

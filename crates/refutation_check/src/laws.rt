@@ -31,6 +31,7 @@ pub fn refutation_is_unique()
 /// Lines are a refutation that holds or get a refusal, never both, and they get one refusal at most.
 pub fn refusals()
     ensures some { (t : TraceValue) (lines : List RefutationLine) → RefutationHolds t lines ⊎ ((fault : RefutationFault) × IsRefutationRefusal t lines fault) }
-    ensures one { (t : TraceValue) (lines : List RefutationLine) (fault other : RefutationFault) → IsRefutationRefusal t lines fault → IsRefutationRefusal t lines other → fault ≡ other }
+    ensures one { (t : TraceValue) (lines : List RefutationLine) (fault other : RefutationFault) → IsRefutationRefusal t lines fault →
+        IsRefutationRefusal t lines other → fault ≡ other }
     ensures none { (t : TraceValue) (lines : List RefutationLine) (fault : RefutationFault) → RefutationHolds t lines → IsRefutationRefusal t lines fault → ⊥ }
 {}

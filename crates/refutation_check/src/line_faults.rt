@@ -48,7 +48,8 @@ fn step_fault(
     step: &CertStep,
 ) -> Option<RefutationFault>
     requires { IsTableOf pairs.now.table pairs.now.pairs.items }
-    ensures { MatchOption result (StepHoldsOver trace.now (InForce pairs.now.pairs.items) step.now) (HasStepFault trace.now (InForce pairs.now.pairs.items) number step.now) }
+    ensures { MatchOption result (StepHoldsOver trace.now (InForce pairs.now.pairs.items) step.now)
+        (HasStepFault trace.now (InForce pairs.now.pairs.items) number step.now) }
 {
     let from = step.from as usize;
     let to = step.to as usize;

@@ -1,5 +1,5 @@
 -- Lemmas on reports of the trace that was asked for, and on what is written of them.
-use Rattle.std.proofs.Common.{◌≡◌, ◌∙◌, ◌⊎◌, ℕ, List, take, None, Some, Ok, Err, Result, IfOk, IfErr, IfSome, ap, inl, inr, refl, sym, subst}
+use Rattle.std.proofs.Common.{◌≡◌, ◌∙◌, ◌⊎◌, ℕ, List, None, Some, Ok, Err, Result, IfOk, IfErr, IfSome, ap, inl, inr, refl, sym, subst}
 use Rattle.std.specs.Global.{Vec}
 use Rattle.std.specs.Prelude.{IsErrAnd, MatchOption, OnOk, Option, option_map}
 use Rattle.std.specs.Io.KnownBytes.{Appends, Keeps}
@@ -28,15 +28,15 @@ use Rattle.trace_judging.proofs.ReaderFacts.{ShowsNoWhole, text_of_prefix}
 use Rattle.trace_reduction.specs.Reductions.{IsReductionOf}
 use Rattle.trace_reduction.proofs.ReductionFacts.{reduction_of_prefix}
 use Rattle.tso_text.specs.Refusals.{IsRefusedTrace}
-use Rattle.request_texts.specs.NthTraces.{IsKeptOfAsked, IsRefusedNth, IsSaidOf, TakesTrace}
+use Rattle.request_texts.specs.NthTraces.{IsKeptOfAsked, IsRefusedNth, IsWrittenOf, TakesTrace}
 use Rattle.request_texts.specs.OpenedFiles.{HasKnown, HasRefusedFirstText, TakesInput, text_bytes}
-use Rattle.request_texts.proofs.KnownFacts.{known_reads, said_as_well}
+use Rattle.request_texts.proofs.KnownFacts.{known_reads, written_as_well}
 use Rattle.request_texts.proofs.NthFacts.{said_of_asked, unless_refused}
 use Rattle.request_texts.proofs.PairFacts.{at_known}
 use Rattle.request_serving.specs.Deciding.{IsDecided}
 use Rattle.request_serving.specs.Endings.{IsVerdictAsAsked}
 use Rattle.request_serving.specs.Evidence.{IsReportAsAsked, IsReportOfNth}
-use Rattle.request_serving.specs.Presentations.{decided_as, refused_as, said_as}
+use Rattle.request_serving.specs.Presentations.{decided_as, refused_as, rendered_as}
 use Rattle.request_serving.specs.Reducing.{IsReduced}
 
 -- ---- what is said of what was kept is said of the trace that was asked for
@@ -48,22 +48,22 @@ shows_no_whole Picture = λ a b why. refl
 shows_no_whole FieldPicture = λ a b why. refl
 
 module _ (nth : Option ℕ) (remaining kept : Option (List ℕ)) (reads : ReadsAs remaining (λ input. IsKeptOfAsked nth input kept)) (text : List ℕ) where
-  pub verdict_asked : (presentation : Presentation) (verdict : Verdict) → IsSaidOf Refused (IsTextOfInput (said_as presentation) (refused_as presentation)) kept text verdict →
+  pub verdict_asked : (presentation : Presentation) (verdict : Verdict) → IsWrittenOf Refused (IsTextOfInput (rendered_as presentation) (refused_as presentation)) kept text verdict →
       IsVerdictAsAsked presentation nth remaining text verdict
   verdict_asked presentation verdict =
-      let whole = text_of_prefix (IsTextOfTrace (said_as presentation)) Refused (refused_as presentation) (shows_no_whole presentation) in
-      said_of_asked Refused (IsTextOfInput (said_as presentation) (refused_as presentation)) whole text verdict nth remaining kept reads
+      let whole = text_of_prefix (IsTextOfTrace (rendered_as presentation)) Refused (refused_as presentation) (shows_no_whole presentation) in
+      said_of_asked Refused (IsTextOfInput (rendered_as presentation) (refused_as presentation)) whole text verdict nth remaining kept reads
 
-  pub decision_asked : (presentation : Presentation) (effort : ℕ) (answer : Answer) → IsSaidOf NoneAnswered (IsDecisionOf (decided_as presentation) (refused_as presentation) effort) kept text answer →
+  pub decision_asked : (presentation : Presentation) (effort : ℕ) (answer : Answer) → IsWrittenOf NoneAnswered (IsDecisionOf (decided_as presentation) (refused_as presentation) effort) kept text answer →
       IsDecided presentation effort nth remaining text answer
   decision_asked presentation effort answer =
       let whole = text_of_prefix (IsDecisionText (decided_as presentation) effort) NoneAnswered (refused_as presentation) (shows_no_whole presentation) in
       said_of_asked NoneAnswered (IsDecisionOf (decided_as presentation) (refused_as presentation) effort) whole text answer nth remaining kept reads
 
-  pub reduction_asked : (verdict : Verdict) → IsSaidOf Refused IsReductionOf kept text verdict → IsReduced nth remaining text verdict
+  pub reduction_asked : (verdict : Verdict) → IsWrittenOf Refused IsReductionOf kept text verdict → IsReduced nth remaining text verdict
   reduction_asked verdict = said_of_asked Refused IsReductionOf reduction_of_prefix text verdict nth remaining kept reads
 
-  evidence_asked : {V : Type 0} (is_report : ReportsEvidence V) (refusing : V) (evidence : Option (List ℕ)) (verdict : V) → IsSaidOf refusing (IsReportOfEvidence is_report refusing evidence) kept text verdict →
+  evidence_asked : {V : Type 0} (is_report : ReportsEvidence V) (refusing : V) (evidence : Option (List ℕ)) (verdict : V) → IsWrittenOf refusing (IsReportOfEvidence is_report refusing evidence) kept text verdict →
       IsReportOfNth is_report refusing nth remaining evidence text verdict
   evidence_asked is_report refusing evidence verdict =
       said_of_asked refusing (IsReportOfEvidence is_report refusing evidence) (evidence_of_prefix is_report refusing evidence) text verdict nth remaining kept reads
@@ -82,9 +82,9 @@ module _ (nth : Option ℕ) (remaining : Option (List ℕ)) (found : Option (Vec
 -- what is reported of the text that was read
 pub said_of_text : {R V E : Type 0} (refusing : V) (Is : List ℕ → List ℕ → V → Type 0) (text_of : R → List ℕ) (said_by : R → V) (asked : Option (Vec ℕ)) (text : Vec ℕ) (bytes : List ℕ) → asked ≡ Some text →
     bytes ≡ text.items → (outcome : Result R E) → IfOk outcome (λ r. Is bytes (text_of r) (said_by r)) →
-    IfOk outcome (λ r. IsSaidOf refusing Is (option_map (λ text. text.items) asked) (text_of r) (said_by r))
+    IfOk outcome (λ r. IsWrittenOf refusing Is (option_map (λ text. text.items) asked) (text_of r) (said_by r))
 said_of_text refusing Is text_of said_by asked text bytes is same outcome holds =
-    subst (λ (a : Option (Vec ℕ)). IfOk outcome (λ r. IsSaidOf refusing Is (option_map (λ text. text.items) a) (text_of r) (said_by r))) (sym is)
+    subst (λ (a : Option (Vec ℕ)). IfOk outcome (λ r. IsWrittenOf refusing Is (option_map (λ text. text.items) a) (text_of r) (said_by r))) (sym is)
     (subst (λ (b : List ℕ). IfOk outcome (λ r. Is b (text_of r) (said_by r))) same holds)
 
 -- ---- evidence
@@ -95,11 +95,11 @@ evidence_of_known : {V : Type 0} (is_report : ReportsEvidence V) (refusing : V) 
 evidence_of_known {V} is_report refusing nth traces known remaining has text verdict =
     let implied : (trace text : List ℕ) (verdict : V) → IsReportOfEvidence is_report refusing remaining trace text verdict → IsReportOfEvidence is_report refusing known trace text verdict =
     λ trace text verdict. known_reads known remaining has (λ input. IsReportOfTexts is_report refusing trace input text verdict) in
-    reads_more (λ input. said_as_well refusing (IsReportOfEvidence is_report refusing remaining) (IsReportOfEvidence is_report refusing known) implied nth input text verdict) traces
+    reads_more (λ input. written_as_well refusing (IsReportOfEvidence is_report refusing remaining) (IsReportOfEvidence is_report refusing known) implied nth input text verdict) traces
 
 module _ {V : Type 0} (is_report : ReportsEvidence V) (refusing : V) (request : CheckRequest) (input : Option (List ℕ)) (files : List ℕ → Option (List ℕ)) where
   pub evidence_reported : (kept : Option (List ℕ)) → ReadsAs (text_bytes (files_of request.texts).0 input files) (λ i. IsKeptOfAsked request.nth i kept) → (remaining : Option (List ℕ)) →
-      HasKnown (text_bytes (files_of request.texts).1 input files) remaining → (text : List ℕ) (verdict : V) → IsSaidOf refusing (IsReportOfEvidence is_report refusing remaining) kept text verdict →
+      HasKnown (text_bytes (files_of request.texts).1 input files) remaining → (text : List ℕ) (verdict : V) → IsWrittenOf refusing (IsReportOfEvidence is_report refusing remaining) kept text verdict →
       IsReportAsAsked is_report refusing request input files text verdict
   evidence_reported kept reads remaining has text verdict is =
       let traces = text_bytes (files_of request.texts).0 input files in

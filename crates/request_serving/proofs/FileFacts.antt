@@ -7,7 +7,7 @@ use Rattle.trace_reports.specs.declared.answers.Answer.TheVariants.{Clear, Undec
 use Rattle.trace_reports.specs.Statuses.{status_of_answer}
 use Rattle.log_reports.specs.LogReports.{IsLogReport}
 use Rattle.log_reports.specs.LogTexts.{log_lines}
-use Rattle.trace_reports.specs.Reports.{refusal_shown}
+use Rattle.trace_reports.specs.Reports.{rendered_refusal}
 use Rattle.log_reports.proofs.ViolationFacts.{report_violation}
 use Rattle.command_line.specs.declared.options.Presentation.TheVariants.{Report}
 use Rattle.command_line.specs.FileArguments.{NameFile, NameFiles}
@@ -42,13 +42,13 @@ module _ (input : Option (List ℕ)) (files : List ℕ → Option (List ℕ)) (o
   says_violation Violation is = refl
   says_violation Unread is = absurd (omega (arith, is))
 
-  has_no_order : (bytes : Option (List ℕ)) (text : List ℕ) → ReadsAs bytes (λ all. IsLogReport log_lines refusal_shown log_options all text Violation) → IsLogWithoutOrder bytes
+  has_no_order : (bytes : Option (List ℕ)) (text : List ℕ) → ReadsAs bytes (λ all. IsLogReport log_lines rendered_refusal log_options all text Violation) → IsLogWithoutOrder bytes
   has_no_order None text report = tt
-  has_no_order (Some all) text report = report_violation log_lines refusal_shown log_options all text report.of_all
+  has_no_order (Some all) text report = report_violation log_lines rendered_refusal log_options all text report.of_all
 
   no_order : (bytes : Option (List ℕ)) → EndsLogged log_options bytes o status → status ≡ 3 → IsLogWithoutOrder bytes
   no_order bytes (inl (answer, writes, notes, gives)) three =
-      has_no_order bytes writes.0 (subst (λ a. ReadsAs bytes (λ all. IsLogReport log_lines refusal_shown log_options all writes.0 a)) (says_violation answer (sym gives ∙ three)) writes.1)
+      has_no_order bytes writes.0 (subst (λ a. ReadsAs bytes (λ all. IsLogReport log_lines rendered_refusal log_options all writes.0 a)) (says_violation answer (sym gives ∙ three)) writes.1)
   no_order bytes (inr (fault, leaves, told)) three = absurd (omega (arith, told.1, three))
 
   logged : (file : Option Text) → Does (logging file log_options) input files o status → status ≡ 3 → IsLogWithoutOrder (text_bytes file input files)

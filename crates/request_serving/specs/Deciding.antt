@@ -7,14 +7,14 @@ use Rattle.trace_decisions.specs.DecisionTexts.{IsDecisionText}
 use Rattle.trace_reports.specs.Renderings.{IsTextOf}
 use Rattle.trace_decisions.specs.EvidenceReports.{IsEvidenceReport}
 use Rattle.text_streams.specs.Readings.{ReadsAs}
-use Rattle.request_texts.specs.NthTraces.{IsSaidOfNth}
+use Rattle.request_texts.specs.NthTraces.{IsWrittenOfNth}
 use Rattle.request_serving.specs.Evidence.{IsReportOfNth}
 use Rattle.request_serving.specs.Presentations.{decided_as, refused_as}
 
 -- the decision in this form, after at most so many steps, on the only trace of a reader's bytes, or on the one of this number
 abbrev pub IsDecided : Presentation → ℕ → Option ℕ → Option (List ℕ) → List ℕ → Answer → Type 0
 IsDecided presentation effort nth remaining text answer =
-    ReadsAs remaining (λ input. IsSaidOfNth Refused nth (IsTextOf (IsDecisionText (decided_as presentation) effort) Refused (refused_as presentation)) input text answer)
+    ReadsAs remaining (λ input. IsWrittenOfNth Refused nth (IsTextOf (IsDecisionText (decided_as presentation) effort) Refused (refused_as presentation)) input text answer)
 
 -- the line on the evidence that a reader has about the only trace of another reader's bytes, or about the one of this number
 abbrev pub IsVerificationOfNth : Option ℕ → Option (List ℕ) → Option (List ℕ) → List ℕ → Answer → Type 0

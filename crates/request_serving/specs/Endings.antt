@@ -23,9 +23,9 @@ use Rattle.run_serving.specs.Campaigning.{IsCampaignText, LeavesCampaignText}
 use Rattle.request_serving.specs.Deciding.{IsDecided, IsVerificationOfNth}
 use Rattle.request_serving.specs.Evidence.{IsReportOfNth}
 use Rattle.run_serving.specs.MadePrograms.{IsMadeText, LeavesMadeText}
-use Rattle.request_texts.specs.NthTraces.{IsSaidOfNth}
+use Rattle.request_texts.specs.NthTraces.{IsWrittenOfNth}
 use Rattle.request_texts.specs.OpenedFiles.{text_bytes}
-use Rattle.request_serving.specs.Presentations.{log_refused_as, logged_as, refused_as, said_as}
+use Rattle.request_serving.specs.Presentations.{log_refused_as, logged_as, refused_as, rendered_as}
 use Rattle.request_serving.specs.Reducing.{IsReduced}
 use Rattle.run_serving.specs.Replaying.{IsReplayText}
 use Rattle.run_serving.specs.Running.{IsRunText, IsRunTimesText, LeavesRunTimes}
@@ -95,7 +95,7 @@ EndsByText is_text leaves o status = Ends is_text (λ said. said) leaves o statu
 
 -- the verdict on a trace in this form: on the only one of a reader's bytes, or on the one of this number
 abbrev pub IsVerdictAsAsked : Presentation → Option ℕ → Option (List ℕ) → List ℕ → Verdict → Type 0
-IsVerdictAsAsked presentation nth remaining text verdict = ReadsAs remaining (λ input. IsSaidOfNth Refused nth (IsTextOfInput (said_as presentation) (refused_as presentation)) input text verdict)
+IsVerdictAsAsked presentation nth remaining text verdict = ReadsAs remaining (λ input. IsWrittenOfNth Refused nth (IsTextOfInput (rendered_as presentation) (refused_as presentation)) input text verdict)
 
 -- the report of the certificate that a reader has on the only trace of another reader's bytes, or on the one of this number
 abbrev pub IsCheckOfNth : Option ℕ → Option (List ℕ) → Option (List ℕ) → List ℕ → Verdict → Type 0

@@ -2,7 +2,7 @@
 use Rattle.std.specs.Prelude.{ℕ, List, Option, IfSome}
 use Rattle.tso_model.specs.Axioms.{IsConsistent}
 use Rattle.text_streams.specs.WrittenTexts.{LeavesAtFault}
-use Rattle.trace_reports.specs.Reports.{refusal_shown}
+use Rattle.trace_reports.specs.Reports.{rendered_refusal}
 use Rattle.trace_reports.specs.Statuses.{status_of, status_of_answer}
 use Rattle.trace_judging.specs.WrittenReports.{IsCheckReportOfReaders, IsReportOfReader}
 use Rattle.trace_decisions.specs.DecisionTexts.{IsDecisionOfReader, decision_text}
@@ -16,7 +16,7 @@ EndsJudged trace o status = EndsByReport (IsReportOfReader trace) o status
 
 -- the decision on the trace of these bytes, after 100,000 steps at most
 abbrev pub EndsDecided : Option (List ℕ) → Outputs → ℕ → Type 0
-EndsDecided trace o status = let is_text = IsDecisionOfReader decision_text refusal_shown 100000 trace in Ends is_text status_of_answer (LeavesAtFault is_text) o status
+EndsDecided trace o status = let is_text = IsDecisionOfReader decision_text rendered_refusal 100000 trace in Ends is_text status_of_answer (LeavesAtFault is_text) o status
 
 -- the report of the certificate of these bytes on the trace of these
 abbrev pub EndsChecked : Option (List ℕ) → Option (List ℕ) → Outputs → ℕ → Type 0

@@ -5,7 +5,7 @@ use Rattle.command_line.specs.declared.options.Presentation.{Presentation}
 use Rattle.command_line.specs.declared.options.Presentation.TheVariants.{Report, Explanation, Picture, FieldPicture}
 use Rattle.trace_reports.specs.declared.findings.Finding.{Finding}
 use Rattle.trace_reports.specs.Renderings.{RendersRefusal}
-use Rattle.trace_reports.specs.Reports.{refusal_shown, reported}
+use Rattle.trace_reports.specs.Reports.{rendered_refusal, reported}
 use Rattle.trace_explanation.specs.Explained.{explained, refusal_explained}
 use Rattle.trace_pictures.specs.Pictured.{field_pictured, pictured}
 use Rattle.trace_decisions.specs.declared.decisions.Decision.{Decision}
@@ -18,11 +18,11 @@ use Rattle.log_reports.specs.LogReports.{RendersLog}
 use Rattle.log_reports.specs.LogRefusals.{log_refusal_explained}
 use Rattle.log_reports.specs.LogTexts.{log_explained, log_lines, log_traces}
 
-abbrev pub said_as : Presentation → TraceValue → Finding → List ℕ
-said_as Report = reported
-said_as Explanation = explained
-said_as Picture = pictured
-said_as FieldPicture = field_pictured
+abbrev pub rendered_as : Presentation → TraceValue → Finding → List ℕ
+rendered_as Report = reported
+rendered_as Explanation = explained
+rendered_as Picture = pictured
+rendered_as FieldPicture = field_pictured
 
 -- no decision is asked for with the names of the field: its picture would be the same
 abbrev pub decided_as : Presentation → TraceValue → Decision → List ℕ
@@ -32,10 +32,10 @@ decided_as Picture = decision_pictured
 decided_as FieldPicture = decision_pictured
 
 abbrev pub refused_as : Presentation → RendersRefusal
-refused_as Report = refusal_shown
+refused_as Report = rendered_refusal
 refused_as Explanation = refusal_explained
-refused_as Picture = refusal_shown
-refused_as FieldPicture = refusal_shown
+refused_as Picture = rendered_refusal
+refused_as FieldPicture = rendered_refusal
 
 abbrev pub logged_as : LogForm → RendersLog
 logged_as forms.Lines = log_lines
@@ -44,6 +44,6 @@ logged_as forms.Traces = log_traces
 
 -- the refusal of a log is explained where its violations would be
 abbrev pub log_refused_as : LogForm → RendersRefusal
-log_refused_as forms.Lines = refusal_shown
+log_refused_as forms.Lines = rendered_refusal
 log_refused_as forms.Explained = log_refusal_explained
-log_refused_as forms.Traces = refusal_shown
+log_refused_as forms.Traces = rendered_refusal

@@ -1,7 +1,6 @@
 //! What the program does for each request.
 ghost use Rattle.std.specs.Prelude.{◌≡◌, ◌≢◌, true, false};
 ghost use Rattle.command_line.specs.Requests.{HasDrainTurns, HasOneInput, HasUnitRanges, HasWorkers, asked_of};
-ghost use Rattle.trace_judging.specs.Limits.{worker_limit};
 ghost use Rattle.text_streams.specs.Streams.{AppendsPrefix};
 ghost use Rattle.request_serving.specs.Endings.{EndsAsAsked, EndsShowing, EndsWithText, outputs};
 ghost use Rattle.request_serving.specs.LawfulRequests.{RunsLawfully, runs_on_lawful_unit};

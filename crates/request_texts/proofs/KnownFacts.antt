@@ -6,7 +6,7 @@ use Rattle.std.specs.List.{list_all}
 use Rattle.std.proofs.lemmas.List.{append-nil}
 use Rattle.std.proofs.Math.Seq.{take-length}
 use Rattle.text_streams.specs.Readings.{ReadsAs}
-use Rattle.request_texts.specs.NthTraces.{IsSaidOfNth}
+use Rattle.request_texts.specs.NthTraces.{IsWrittenOfNth}
 use Rattle.request_texts.specs.OpenedFiles.{HasKnown, OpensFirst, OpensNext}
 
 -- a reader's bytes are known of itself
@@ -29,11 +29,11 @@ pub known_prefix : (limit : ℕ) (bytes : List ℕ) (known remaining : Option (L
 known_prefix limit bytes = known_all (λ all. bytes ≡ take limit all)
 
 -- what is said of the trace that is asked for follows from what else is said of it
-pub said_as_well : {X : Type 0} (refused : X) (A B : List ℕ → List ℕ → X → Type 0) → ((trace text : List ℕ) (said : X) → A trace text said → B trace text said) → (nth : Option ℕ) (input text : List ℕ) (said : X) →
-    IsSaidOfNth refused nth A input text said → IsSaidOfNth refused nth B input text said
-said_as_well refused A B implied None input text said is = implied input text said is
-said_as_well refused A B implied (Some number) input text said (None, piece, is) = (None, piece, is)
-said_as_well refused A B implied (Some number) input text said (Some trace, piece, is) = (Some trace, piece, implied trace text said is)
+pub written_as_well : {X : Type 0} (refused : X) (A B : List ℕ → List ℕ → X → Type 0) → ((trace text : List ℕ) (said : X) → A trace text said → B trace text said) → (nth : Option ℕ) (input text : List ℕ) (said : X) →
+    IsWrittenOfNth refused nth A input text said → IsWrittenOfNth refused nth B input text said
+written_as_well refused A B implied None input text said is = implied input text said is
+written_as_well refused A B implied (Some number) input text said (None, piece, is) = (None, piece, is)
+written_as_well refused A B implied (Some number) input text said (Some trace, piece, is) = (Some trace, piece, implied trace text said is)
 
 -- ---- files opened
 

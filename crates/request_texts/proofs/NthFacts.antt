@@ -1,5 +1,5 @@
 -- Lemmas on the text that is asked for, by what was kept of it.
-use Rattle.std.proofs.Common.{◌≡◌, ◌∙◌, ◌-◌, ℕ, ◌≤◌, List, length, take, None, Some, IfSome, ap, refl, sym, subst}
+use Rattle.std.proofs.Common.{◌≡◌, ◌∙◌, ◌-◌, ℕ, ◌≤◌, List, length, take, None, Some, IfSome, ap, sym, subst}
 use Rattle.std.proofs.lemmas.List.{take_all}
 use Rattle.std.specs.Prelude.{Option, option_map, slice_get}
 use Rattle.text_streams.specs.Readings.{ReadsAs}
@@ -9,7 +9,7 @@ use Rattle.trace_streams.specs.Limits.{trace_read_limit}
 use Rattle.trace_streams.specs.NthTraceTexts.{IsNthTraceText}
 use Rattle.trace_streams.proofs.TraceTextFacts.{one_list_of_trace_texts}
 use Rattle.trace_judging.proofs.EvidenceFacts.{refused_first}
-use Rattle.request_texts.specs.NthTraces.{IsKeptOfAsked, IsRefusedNth, IsSaidOf, IsSaidOfNth}
+use Rattle.request_texts.specs.NthTraces.{IsKeptOfAsked, IsRefusedNth, IsWrittenOf, IsWrittenOfNth}
 
 -- what was read of a text as a whole is what is kept of it
 pub whole_kept : (remaining : Option (List ℕ)) (bytes : List ℕ) → IfSome remaining (λ all. bytes ≡ take trace_read_limit all) → length bytes ≤ trace_read_limit →
@@ -21,16 +21,16 @@ whole_kept (Some all) bytes prefix within = record { bytes = all; of_read = ap S
 
 module _ {X : Type 0} (refused : X) (Is : List ℕ → List ℕ → X → Type 0) (of_first : (input text : List ℕ) (said : X) → Is (take trace_read_limit input) text said → Is input text said)
     (text : List ℕ) (said : X) where
-  of_piece : (piece : Option (List ℕ)) → IsSaidOf refused Is (option_map (take trace_read_limit) piece) text said → IsSaidOf refused Is piece text said
+  of_piece : (piece : Option (List ℕ)) → IsWrittenOf refused Is (option_map (take trace_read_limit) piece) text said → IsWrittenOf refused Is piece text said
   of_piece None is = is
   of_piece (Some trace) is = of_first trace text said is
 
-  of_input : (nth : Option ℕ) (kept : Option (List ℕ)) → IsSaidOf refused Is kept text said → (input : List ℕ) → IsKeptOfAsked nth input kept → IsSaidOfNth refused nth Is input text said
-  of_input None kept is input keeps = of_first input text said (subst (λ k. IsSaidOf refused Is k text said) keeps is)
-  of_input (Some number) kept is input (piece, nth, keeps) = (piece, nth, of_piece piece (subst (λ k. IsSaidOf refused Is k text said) keeps is))
+  of_input : (nth : Option ℕ) (kept : Option (List ℕ)) → IsWrittenOf refused Is kept text said → (input : List ℕ) → IsKeptOfAsked nth input kept → IsWrittenOfNth refused nth Is input text said
+  of_input None kept is input keeps = of_first input text said (subst (λ k. IsWrittenOf refused Is k text said) keeps is)
+  of_input (Some number) kept is input (piece, nth, keeps) = (piece, nth, of_piece piece (subst (λ k. IsWrittenOf refused Is k text said) keeps is))
 
-  pub said_of_asked : (nth : Option ℕ) (remaining kept : Option (List ℕ)) → ReadsAs remaining (λ input. IsKeptOfAsked nth input kept) → IsSaidOf refused Is kept text said →
-      ReadsAs remaining (λ input. IsSaidOfNth refused nth Is input text said)
+  pub said_of_asked : (nth : Option ℕ) (remaining kept : Option (List ℕ)) → ReadsAs remaining (λ input. IsKeptOfAsked nth input kept) → IsWrittenOf refused Is kept text said →
+      ReadsAs remaining (λ input. IsWrittenOfNth refused nth Is input text said)
   said_of_asked nth remaining kept reads is = reads_more (of_input nth kept is) remaining reads
 
 -- ---- a refusal of what was asked for is one of what was kept

@@ -1,5 +1,5 @@
 -- Lemmas on two texts that are read one after the other, each from its file or from standard input.
-use Rattle.std.proofs.Common.{◌≡◌, ◌∙◌, ◌⊎◌, ℕ, List, [], ◌∷◌, None, Some, IfSome, ap, inl, inr, refl, subst, sym, true, false, true≢false}
+use Rattle.std.proofs.Common.{◌≡◌, ◌∙◌, ◌⊎◌, ℕ, List, [], ◌∷◌, None, Some, IfSome, inl, inr, refl, subst, sym, true, false, true≢false}
 use Rattle.std.specs.Prelude.{MatchOption, Option, is_some, not, option_map}
 use Rattle.std.specs.List.{list_all}
 use Rattle.command_line.specs.Requests.{files_of}

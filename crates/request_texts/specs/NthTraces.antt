@@ -11,14 +11,14 @@ abbrev pub nth_refusal : List ℕ
 nth_refusal = codes "REFUSED Nth" ++ 10 ∷ []
 
 -- The text, and what it says, are of this trace text of a stream; or the text is that line, and says that of a refusal, where there is no trace text.
-abbrev pub IsSaidOf : {X : Type 0} → X → (List ℕ → List ℕ → X → Type 0) → Option (List ℕ) → List ℕ → X → Type 0
-IsSaidOf {X} refused Is (Some piece) text said = Is piece text said
-IsSaidOf {X} refused Is None text said = (text ≡ nth_refusal) × (said ≡ refused)
+abbrev pub IsWrittenOf : {X : Type 0} → X → (List ℕ → List ℕ → X → Type 0) → Option (List ℕ) → List ℕ → X → Type 0
+IsWrittenOf {X} refused Is (Some piece) text said = Is piece text said
+IsWrittenOf {X} refused Is None text said = (text ≡ nth_refusal) × (said ≡ refused)
 
 -- The text, and what it says, are of the input, or of its trace text of this number.
-abbrev pub IsSaidOfNth : {X : Type 0} → X → Option ℕ → (List ℕ → List ℕ → X → Type 0) → List ℕ → List ℕ → X → Type 0
-IsSaidOfNth {X} refused None Is input text said = Is input text said
-IsSaidOfNth {X} refused (Some number) Is input text said = (piece : Option (List ℕ)) × IsNthTraceText number input piece × IsSaidOf refused Is piece text said
+abbrev pub IsWrittenOfNth : {X : Type 0} → X → Option ℕ → (List ℕ → List ℕ → X → Type 0) → List ℕ → List ℕ → X → Type 0
+IsWrittenOfNth {X} refused None Is input text said = Is input text said
+IsWrittenOfNth {X} refused (Some number) Is input text said = (piece : Option (List ℕ)) × IsNthTraceText number input piece × IsWrittenOf refused Is piece text said
 
 -- The input is no trace; or its trace text of this number is none, or there are fewer.
 abbrev pub IsRefusedNth : Option ℕ → List ℕ → Type 0

@@ -1,23 +1,16 @@
 -- Lemmas on graphs that rows are added to.
-use Rattle.std.proofs.Common.{◌≡◌, zero, ◌⊎◌, ◌↔◌, inl, inr, ⊎_elim, ℕ, suc, ◌+◌, ◌-◌, ◌<◌, ◌≤◌, List, [], ◌∷◌, ◌++◌, length, get_or, take, length-append, refl, sym, ap, ◌∙◌, subst, arith}
+use Rattle.std.proofs.Common.{◌≡◌, ◌⊎◌, ◌↔◌, inl, inr, ⊎_elim, ℕ, suc, ◌+◌, ◌-◌, ◌<◌, ◌≤◌, List, [], ◌∷◌, ◌++◌, length, get_or, take, refl, sym, ap, ◌∙◌, subst, arith}
 use Rattle.std.specs.Prelude.{Contains}
 use Rattle.std.proofs.lemmas.Bool.{cases_lt}
-use Rattle.std.proofs.lemmas.List.{take_more, get_or_past, get_or_at, get_or_append_left, get_or-append_right}
+use Rattle.std.proofs.lemmas.List.{take_more}
 use Rattle.std.proofs.lemmas.List.Elements.{Contains-append_left, Contains-push, Contains-push_cases}
-use Rattle.bitsets.specs.Rows.{HasNumber, IsListOf}
+use Rattle.bitsets.specs.Rows.{HasNumber}
 use Rattle.order_graph.specs.Digraphs.{Digraph, IsEdge}
-use Rattle.std.specs.Global.{Vec}
 use Rattle.tso_ops.specs.Values.{TraceValue, rows}
 use Rattle.tso_ops.specs.Events.{event_total}
 use Rattle.tso_model.specs.Ranks.{RankSet}
-use Rattle.tso_cert.specs.declared.rules.InferredRule.{InferredRule}
-use Rattle.tso_cert.specs.declared.rules.InferredRule.TheVariants.{LoadPast, StorePast, SwapBefore, SwapAfter}
-use Rattle.tso_model.specs.Rules.{InferredBy}
 use Rattle.tso_model.specs.NewEdges.{IsNew}
 use Rattle.tso_model.proofs.Bounds.{RankSet-within}
-use Rattle.tso_ops.proofs.NumberFacts.{event_above_zero, store_event, load_event}
-use Rattle.tso_ops.proofs.TableFacts.{source_load}
-use Rattle.tso_model.proofs.NewEdgeFacts.{new_within}
 use Rattle.tso_rules.proofs.AffectedFacts.{from_init}
 use Rattle.round_pool.specs.declared.ranked.Edge.{Edge}
 use Rattle.round_pool.specs.RankGraphs.{IsRankGraph, AddsEdges}

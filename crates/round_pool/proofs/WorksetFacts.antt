@@ -1,12 +1,12 @@
 -- Lemmas on the rows that a round looks at, and on cycles that a round closes.
-use Rattle.std.proofs.Common.{◌≡◌, zero, ◌⊎◌, inl, inr, ⊎_elim, ℕ, suc, ◌+◌, ◌-◌, ◌<◌, ◌≤◌, List, [], ◌∷◌, ◌++◌, length, length-append, get_or, take, refl, sym, subst, ◌∙◌, arith}
+use Rattle.std.proofs.Common.{◌≡◌, zero, ◌⊎◌, inl, inr, ℕ, suc, ◌+◌, ◌-◌, ◌<◌, List, [], ◌∷◌, ◌++◌, length, length-append, get_or, take, refl, sym, subst, ◌∙◌, arith}
 use Rattle.std.specs.Prelude.{Contains, AllPairs}
 use Rattle.std.proofs.lemmas.Bool.{cases_eq, cases_lt}
 use Rattle.std.proofs.lemmas.List.{get_or_default, get_or_at, get_or_append_left, take_more}
 use Rattle.std.proofs.lemmas.List.Elements.{Contains-get_or, Contains-push_cases}
 use Rattle.order_paths.specs.Paths.{Reaches, HasCycle}
 use Rattle.order_paths.proofs.Decisions.{Decision}
-use Rattle.order_paths.proofs.Reach.{Reaches-decided, Reaches-edge, Reaches-join, Reaches-into, Reaches-mono, HasCycle-iff, HasCycle-Reaches}
+use Rattle.order_paths.proofs.Reach.{Reaches-decided, Reaches-edge, Reaches-join, Reaches-into, HasCycle-iff, HasCycle-Reaches}
 use Rattle.bitsets.specs.Rows.{IsListOf, IsAscending as IsAscendingRow}
 use Rattle.order_graph.specs.Digraphs.{Digraph, IsEdge, HasGrown, ReachesMore}
 use Rattle.order_graph.proofs.KeptTablesFacts.{IsEdge-decided}

@@ -1,5 +1,5 @@
 //! Rows that workers claim, each at most once.
-ghost use Rattle.std.specs.Prelude.{◌≡◌, ℕ, ◌+◌, ◌-◌, ◌<◌, ◌≤◌, ◌++◌, [], ◌∷◌, true, false, length, get_or, sum_by, All, AllPairs, IfOk, IfSome, IfNone};
+ghost use Rattle.std.specs.Prelude.{◌≡◌, ◌+◌, ◌-◌, ◌<◌, ◌≤◌, ◌++◌, [], ◌∷◌, true, false, length, get_or, sum_by, All, AllPairs, IfOk, IfSome, IfNone};
 ghost use Rattle.round_pool.specs.ClaimCounts.{all_parts};
 ghost use Rattle.round_pool.specs.Claims.{rows_to_claim, places_of, tried_by, claimant_parts, held, IsOf, IsFresh, NoneTwice, HasAll};
 
@@ -82,7 +82,9 @@ impl Claims {
         ensures own { IsOf self.now claimant.new }
         ensures parts { claimant_parts claimant.new ≡ claimant_parts claimant.old }
         ensures held { IfSome result (λ row. held self.now claimant.new ≡ held self.now claimant.old ++ row ∷ []) }
-        ensures some { IfSome result (λ row. (tried_by claimant.old < tried_by claimant.new) × (places_of claimant.new ≡ places_of claimant.old ++ (tried_by claimant.new - 1) ∷ []) × (row ≡ get_or (rows_to_claim self.now) (tried_by claimant.new - 1) 0)) }
+        ensures some { IfSome result (λ row. (tried_by claimant.old < tried_by claimant.new) ×
+            (places_of claimant.new ≡ places_of claimant.old ++ (tried_by claimant.new - 1) ∷ []) ×
+            (row ≡ get_or (rows_to_claim self.now) (tried_by claimant.new - 1) 0)) }
         ensures none { IfNone result ((tried_by claimant.new ≡ length (rows_to_claim self.now)) × (places_of claimant.new ≡ places_of claimant.old)) }
         ensures once { NoneTwice (held self.now claimant.new) }
         ensures all { HasAll self.now claimant.new }

@@ -1,7 +1,6 @@
 //! The edges that a round adds.
-ghost use Rattle.std.specs.Prelude.{◌≡◌, ◌+◌, ◌*◌, ◌<◌, ◌≤◌, ◌++◌, ℕ, length, map, All, AllPairs, IfOk, OnOk};
+ghost use Rattle.std.specs.Prelude.{◌≡◌, ◌+◌, ◌*◌, ◌<◌, ◌≤◌, ◌++◌, length, map, All, AllPairs, IfOk, OnOk};
 ghost use Rattle.tso_ops.specs.Values.{rows};
-ghost use Rattle.bitsets.specs.Rows.{IsAscending as IsAscendingRow};
 ghost use Rattle.round_pool.specs.Internal.EdgeLists.{AreNewEdges, AreEdgesOf, AreAscendingBelow};
 ghost use Rattle.round_pool.specs.Internal.WorkerRows.{AreOverBase};
 ghost use Rattle.round_pool.specs.Internal.Worksets.{IsWorkset};

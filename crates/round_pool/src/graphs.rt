@@ -1,5 +1,5 @@
 //! Graphs of rank sets.
-ghost use Rattle.std.specs.Prelude.{◌≡◌, ◌<◌, ℕ, Contains, IfOk};
+ghost use Rattle.std.specs.Prelude.{◌<◌, IfOk};
 ghost use Rattle.order_graph.specs.Digraphs.{IsEdge};
 ghost use Rattle.tso_rules.specs.SourceMasks.{AreSourceMasks};
 ghost use Rattle.round_pool.specs.Internal.Worksets.{OnlyGrown};

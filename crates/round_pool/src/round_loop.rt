@@ -1,5 +1,5 @@
 //! The rounds of a trace.
-ghost use Rattle.std.specs.Prelude.{◌≡◌, ◌↔◌, ◌≤◌, ◌<◌, ℕ, IsTrue, IfOk};
+ghost use Rattle.std.specs.Prelude.{◌↔◌, ◌≤◌, ◌<◌, ℕ, IsTrue, IfOk};
 ghost use Rattle.order_paths.specs.Paths.{HasCycle};
 ghost use Rattle.order_graph.specs.Digraphs.{IsEdge};
 ghost use Rattle.tso_ops.specs.Events.{IsUnwritten};

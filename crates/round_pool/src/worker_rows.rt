@@ -1,11 +1,10 @@
 //! The rows of one round, which workers claim one by one and compute.
-ghost use Rattle.std.specs.Prelude.{◌≡◌, ◌<◌, ◌≤◌, ◌++◌, length, All, AllPairs, Err, IfOk, IfErr};
-ghost use Rattle.std.specs.Thread.{IsSync};
-ghost use Rattle.order_graph.specs.Digraphs.{Digraph, IsEdge};
-ghost use Rattle.tso_ops.specs.Values.{TraceValue, rows};
+ghost use Rattle.std.specs.Prelude.{◌≡◌, ◌<◌, ◌≤◌, length, All, AllPairs, Err, IfOk, IfErr};
+ghost use Rattle.order_graph.specs.Digraphs.{IsEdge};
+ghost use Rattle.tso_ops.specs.Values.{rows};
 ghost use Rattle.tso_model.specs.NewEdges.{IsNew};
 ghost use Rattle.bitsets.specs.Rows.{IsListOf};
-ghost use Rattle.round_pool.specs.Claims.{IsOf, IsFresh, NoneTwice};
+ghost use Rattle.round_pool.specs.Claims.{IsFresh, NoneTwice};
 ghost use Rattle.round_pool.specs.Internal.WorkerRows.{IsRow, numbers_of, AreOfClaimant, AreOverBase, AreRowsOf};
 ghost use Rattle.round_pool.specs.Workers.{worker_limit};
 

@@ -1,5 +1,5 @@
 //! Which rows a round looks at, and among how many workers they are shared.
-ghost use Rattle.std.specs.Prelude.{◌≡◌, ◌⊎◌, ◌+◌, ◌/◌, ◌≤◌, ◌<◌, ℕ, IfOk};
+ghost use Rattle.std.specs.Prelude.{◌⊎◌, ◌+◌, ◌/◌, ◌≤◌, ◌<◌, ℕ, IfOk};
 ghost use Rattle.order_graph.specs.Digraphs.{Digraph};
 ghost use Rattle.round_pool.specs.Internal.Worksets.{IsWorkset, FollowsRound};
 

@@ -1,13 +1,9 @@
 -- What the program prints of campaigns.
-use Rattle.std.specs.Prelude.{◌≡◌, ◌⊎◌, ℕ, ◌+◌, ◌≤◌, ◌^◌, Bool, true, false, List, [], ◌∷◌, ◌++◌, codes, replicate, Option}
+use Rattle.std.specs.Prelude.{◌≡◌, ◌⊎◌, ℕ, ◌+◌, ◌≤◌, ◌^◌, List, [], ◌∷◌, ◌++◌, codes, replicate, Option}
 use Rattle.drawn_programs.specs.Making.{IsShape}
 use Rattle.command_line.specs.declared.options.CampaignOptions.{CampaignOptions}
 use Rattle.tso_report.specs.Campaigns.{IsCampaign, LeavesOfSeeds}
 use Rattle.tso_report.specs.declared.campaigns.CampaignPlan.{CampaignPlan}
-use Rattle.request_options.specs.declared.campaigns.CampaignPrinting.{CampaignPrinting}
-use Rattle.request_options.specs.declared.campaigns.CampaignPrinting.TheVariants.{Lines, Traces}
-use Rattle.request_options.specs.declared.campaigns.Execution.{Execution}
-use Rattle.request_options.specs.declared.campaigns.Execution.TheVariants.{Threads, Replay}
 use Rattle.text_streams.specs.declared.faults.Fault.{Fault}
 use Rattle.tso_report.specs.Limits.{seed_count_limit}
 use Rattle.trace_reports.specs.declared.verdicts.Verdict.{Verdict}

@@ -1,5 +1,5 @@
 //! Runs a campaign: a program from each of many seeds, run or replayed on a unit of its own.
-ghost use Rattle.std.specs.Prelude.{◌≡◌, ◌⊎◌, ◌≤◌, Decides, IfOk, IfErr, map, replicate};
+ghost use Rattle.std.specs.Prelude.{◌≡◌, Decides, IfOk, IfErr, map, replicate};
 ghost use Rattle.trace_judging.specs.Limits.{HasWorkerRange};
 ghost use Rattle.run_serving.specs.Ranges.{IsCampaignInRange};
 ghost use Rattle.run_serving.specs.Campaigning.{AreSeeds, IsCampaignText, IsPlanOf, LeavesCampaignText};

@@ -1,5 +1,5 @@
 //! Prints the program that is made from a seed, or its schedule.
-ghost use Rattle.std.specs.Prelude.{◌≡◌, ◌⊎◌, IfOk, IfErr, MatchOption, string_bytes};
+ghost use Rattle.std.specs.Prelude.{◌≡◌, IfOk, IfErr, MatchOption, string_bytes};
 ghost use Rattle.drawn_programs.specs.Making.{IsShape};
 ghost use Rattle.run_serving.specs.MadePrograms.{IsMadeText, LeavesMadeText, asked_shape, made_text};
 ghost use Rattle.text_streams.specs.WrittenTexts.{WritesWhole};

@@ -1,5 +1,5 @@
 //! What is printed of records and of refused texts.
-ghost use Rattle.std.specs.Prelude.{◌≡◌, ◌≢◌, ◌⊎◌, ◌≤◌, ◌&&◌, not, IfOk, IfErr};
+ghost use Rattle.std.specs.Prelude.{◌≡◌, ◌≢◌, ◌⊎◌, ◌&&◌, IfOk, IfErr};
 ghost use Rattle.text_streams.specs.declared.faults.Fault.{Fault};
 ghost use Rattle.trace_reports.specs.RefusalLines.{refusal_text};
 ghost use Rattle.tso_text.specs.Printed.{trace_text};

@@ -1,6 +1,6 @@
 //! `run --times`: a program is read, and run more times than one; the trace of each run is written as it ends.
-ghost use Rattle.std.specs.Prelude.{◌≡◌, ◌⊎◌, ◌≤◌, ℕ, List, IfOk, IfErr, IfSome, OnOk, OnErr, None};
-ghost use Rattle.std.specs.Io.KnownBytes.{Appends, Keeps};
+ghost use Rattle.std.specs.Prelude.{◌≡◌, ◌≤◌, ℕ, List, IfOk, IfSome, OnOk, OnErr, None};
+ghost use Rattle.std.specs.Io.KnownBytes.{Appends};
 ghost use Rattle.command_line.specs.Requests.{asked_of, drain_turns_limit};
 ghost use Rattle.command_line.specs.declared.requests.Request.TheVariants.{RunTimes};
 ghost use Rattle.trace_streams.specs.Limits.{trace_read_limit};

@@ -1,5 +1,5 @@
 //! `run`: a program is read, and run with a thread per processor and a drainer; what was recorded is judged or printed.
-ghost use Rattle.std.specs.Prelude.{◌≡◌, ◌⊎◌, ◌≤◌, [], ◌∷◌, IfOk, IfErr, IfSome, None, Ok};
+ghost use Rattle.std.specs.Prelude.{◌≡◌, ◌⊎◌, ◌≤◌, [], IfOk, IfErr, IfSome, None, Ok};
 ghost use Rattle.issue_desk.specs.Running.{Runs};
 ghost use Rattle.command_line.specs.Requests.{asked_of, drain_turns_limit};
 ghost use Rattle.command_line.specs.declared.requests.Request.TheVariants.{Run};

@@ -1,5 +1,5 @@
 //! The memory units that options ask for, made in one place.
-ghost use Rattle.std.specs.Prelude.{◌≡◌, ◌≤◌, IfOk, map, replicate};
+ghost use Rattle.std.specs.Prelude.{◌≡◌, IfOk, map, replicate};
 ghost use Rattle.run_serving.specs.Ranges.{IsUnitInRange};
 ghost use Rattle.run_serving.specs.BenchUnits.{bench_value};
 ghost use Rattle.run_serving.specs.Printing.{unit_of};

@@ -1,7 +1,6 @@
 -- Lemmas on what is said and printed of trace texts, one trace text more.
 use Rattle.std.proofs.Common.{◌≡◌, Ok, Result, IfOk, IfErr, ℕ, suc, ◌+◌, ◌<◌, List, [], ◌∷◌, ◌++◌, Bool, true, false, cond, length, map, take, drop, get_or, refl, ap, ap₂, sym, subst, ◌∙◌, arith, append_assoc, Err}
 use Rattle.std.specs.Prelude.{Option}
-use Rattle.std.specs.List.{count_by}
 use Rattle.std.specs.Io.KnownBytes.{Appends}
 use Rattle.std.proofs.KnownBytes.{Appends-nil, Appends-trans}
 use Rattle.std.specs.Global.{Vec}

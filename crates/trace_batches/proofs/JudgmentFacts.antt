@@ -27,7 +27,7 @@ use Rattle.trace_reports.specs.declared.verdicts.Verdict.TheVariants as verdict
 use Rattle.trace_reports.specs.Findings.{IsFinding}
 use Rattle.trace_reports.specs.Renderings.{IsTextOfInput, IsTextOfTrace}
 use Rattle.trace_reports.specs.RefusalLines.{refusal_text}
-use Rattle.trace_reports.specs.Reports.{IsReport, refusal_shown, reported}
+use Rattle.trace_reports.specs.Reports.{IsReport, rendered_refusal, reported}
 use Rattle.trace_reports.specs.Violations.{IsViolation}
 use Rattle.trace_reports.proofs.RenderingFacts.{one_text, refused_exactly, some_text, trace_no_order, trace_verdict, trace_violation, violation_exactly}
 use Rattle.trace_streams.proofs.InputFacts.{refusal_of_prefix, spells_of_prefix}
@@ -134,7 +134,7 @@ some_by_rules explains piece = by (some_text explained refusal_explained piece)
 
 -- a trace that is no violation may stay undecided
 some_by_decision : (effort : ℕ) (explains : Bool) (piece : List ℕ) → (judgment : Judgment) × IsJudgment (asking (Decide effort) explains) piece judgment
-some_by_decision effort explains piece = by (some_text reported refusal_shown piece)
+some_by_decision effort explains piece = by (some_text reported rendered_refusal piece)
   where
     of_violation : (t : TraceValue) → SpellsTrace piece t → (IsConsistent t → ⊥) → (c : Certificate) × IsCertificateOf t c → (judgment : Judgment) × IsJudgment (asking (Decide effort) explains) piece judgment
     of_violation t spells none found =
@@ -235,8 +235,8 @@ one_decision effort piece judgment other first second = by (alike_decisions effo
 -- ---- what the report says
 
 pub verdict_said : (explains : Bool) (piece text : List ℕ) (v : Verdict) (judgment : Judgment) → IsReport piece text v → IsJudgment (asking Judge explains) piece judgment → v ≡ judgment_verdict judgment
-verdict_said explains piece text v (Violation body) report is = (violation_exactly reported refusal_shown piece text v report).1 (is.0, is.1, is.2.0)
-verdict_said explains piece text v (Refused f) report is = (refused_exactly reported refusal_shown piece text v report).1 (f.line, f.why, is)
+verdict_said explains piece text v (Violation body) report is = (violation_exactly reported rendered_refusal piece text v report).1 (is.0, is.1, is.2.0)
+verdict_said explains piece text v (Refused f) report is = (refused_exactly reported rendered_refusal piece text v report).1 (f.line, f.why, is)
 verdict_said explains piece text v Consistent report is = absurd is.2
 verdict_said explains piece text v (Undecided steps) report is = absurd is.2
 verdict_said explains piece text v NoViolation (inl p) is =

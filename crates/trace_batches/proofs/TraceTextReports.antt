@@ -3,7 +3,7 @@ use Rattle.std.proofs.Common.{◌≡◌, ◌↔◌, ℕ, ◌<◌, List, length, 
 use Rattle.trace_reports.specs.declared.verdicts.Verdict.{Verdict}
 use Rattle.trace_reports.specs.declared.verdicts.Verdict.TheVariants.{Refused}
 use Rattle.trace_reports.specs.RefusalLines.{refusal_text}
-use Rattle.trace_reports.specs.Reports.{IsReport, refusal_shown, reported}
+use Rattle.trace_reports.specs.Reports.{IsReport, rendered_refusal, reported}
 use Rattle.trace_reports.proofs.RenderingFacts.{one_text}
 use Rattle.tso_text.specs.declared.faults.Why.TheVariants.{TooLong}
 use Rattle.tso_text.specs.Texts.{text_byte_limit}
@@ -19,4 +19,4 @@ refusal_of_long piece long = inr (0, TooLong, trace_laws.too_long piece long, re
 pub long_report : (piece text : List ℕ) (verdict : Verdict) → text_byte_limit < length piece → IsReport piece text verdict ↔ ((text ≡ refusal_text 0 TooLong) × (verdict ≡ Refused))
 long_report piece text verdict long =
     let refusal = refusal_of_long piece long in
-    (λ report. one_text reported refusal_shown piece text (refusal_text 0 TooLong) verdict Refused report refusal, λ says. with_both piece (refusal_text 0 TooLong) text Refused verdict (sym says.0) (sym says.1) refusal)
+    (λ report. one_text reported rendered_refusal piece text (refusal_text 0 TooLong) verdict Refused report refusal, λ says. with_both piece (refusal_text 0 TooLong) text Refused verdict (sym says.0) (sym says.1) refusal)

@@ -67,9 +67,11 @@ pub(crate) fn judge_trace_texts<H: Threads + Wait + Sync, M: Meter, R: Read, W: 
     errors: &mut E,
 ) -> Result<Tally, Fault>
     requires { 1 ≤ judging.now.options.workers }
-    ensures told { IfOk result (HasWrittenAll (printing_by judging.now) judging.now.kept (R.remaining reader.old) (W.contents writer.old) (W.contents writer.new) (E.contents errors.old) (E.contents errors.new)) }
+    ensures told { IfOk result (HasWrittenAll (printing_by judging.now) judging.now.kept (R.remaining reader.old) (W.contents writer.old)
+        (W.contents writer.new) (E.contents errors.old) (E.contents errors.new)) }
     ensures taken { IfOk result (λ _. IfSome (R.remaining reader.old) (λ all. Consumes (R.remaining reader.old) (R.remaining reader.new) all)) }
-    ensures left { OnErr result (LeavesTraceTexts (printing_by judging.now) judging.now.kept (R.remaining reader.old) (W.contents writer.old) (W.contents writer.new) (E.contents errors.old) (E.contents errors.new)) }
+    ensures left { OnErr result (LeavesTraceTexts (printing_by judging.now) judging.now.kept (R.remaining reader.old) (W.contents writer.old)
+        (W.contents writer.new) (E.contents errors.old) (E.contents errors.new)) }
     ensures fault { IfErr result IsBatchFault }
 {
     let Progress {
@@ -94,9 +96,11 @@ fn read_trace_texts<H: Threads + Wait + Sync, M: Meter, R: Read, W: Write, E: Wr
     errors: &mut E,
 ) -> Result<Progress, Fault>
     requires { 1 ≤ judging.now.options.workers }
-    ensures stands { IfOk result (λ p. HasWrittenSoFar (printing_by judging.now) judging.now.kept (R.remaining reader.old) (R.remaining reader.new) (W.contents writer.old) (W.contents writer.new) (E.contents errors.old) (E.contents errors.new) p.splitter p.tally) }
+    ensures stands { IfOk result (λ p. HasWrittenSoFar (printing_by judging.now) judging.now.kept (R.remaining reader.old) (R.remaining reader.new)
+        (W.contents writer.old) (W.contents writer.new) (E.contents errors.old) (E.contents errors.new) p.splitter p.tally) }
     ensures end { OnOk result (IsAtEnd (R.remaining reader.new)) }
-    ensures left { OnErr result (LeavesTraceTexts (printing_by judging.now) judging.now.kept (R.remaining reader.old) (W.contents writer.old) (W.contents writer.new) (E.contents errors.old) (E.contents errors.new)) }
+    ensures left { OnErr result (LeavesTraceTexts (printing_by judging.now) judging.now.kept (R.remaining reader.old) (W.contents writer.old)
+        (W.contents writer.new) (E.contents errors.old) (E.contents errors.new)) }
     ensures fault { IfErr result IsBatchFault }
 {
     let mut progress = Progress {
@@ -127,8 +131,15 @@ fn tell_chunk<H: Threads + Wait + Sync, W: Write, E: Write>(
     errors: &mut E,
 ) -> Result<(), Fault>
     requires { 1 ≤ judging.now.options.workers }
-    ensures stands { OnOk result ((remaining now old before : Option (List ℕ)) → HasWrittenSoFar (printing_by judging.now) judging.now.kept remaining (prepend_known chunk.now now) old (W.contents writer.old) before (E.contents errors.old) progress.old.splitter progress.old.tally → HasWrittenSoFar (printing_by judging.now) judging.now.kept remaining now old (W.contents writer.new) before (E.contents errors.new) progress.new.splitter progress.new.tally) }
-    ensures left { OnErr result ((remaining now old before : Option (List ℕ)) → HasWrittenSoFar (printing_by judging.now) judging.now.kept remaining (prepend_known chunk.now now) old (W.contents writer.old) before (E.contents errors.old) progress.old.splitter progress.old.tally → LeavesTraceTexts (printing_by judging.now) judging.now.kept remaining old (W.contents writer.new) before (E.contents errors.new)) }
+    ensures stands { OnOk result ((remaining now old before : Option (List ℕ)) →
+        HasWrittenSoFar (printing_by judging.now) judging.now.kept remaining (prepend_known chunk.now now) old (W.contents writer.old) before
+        (E.contents errors.old) progress.old.splitter progress.old.tally →
+        HasWrittenSoFar (printing_by judging.now) judging.now.kept remaining now old (W.contents writer.new) before
+        (E.contents errors.new) progress.new.splitter progress.new.tally) }
+    ensures left { OnErr result ((remaining now old before : Option (List ℕ)) →
+        HasWrittenSoFar (printing_by judging.now) judging.now.kept remaining (prepend_known chunk.now now) old (W.contents writer.old) before
+        (E.contents errors.old) progress.old.splitter progress.old.tally →
+        LeavesTraceTexts (printing_by judging.now) judging.now.kept remaining old (W.contents writer.new) before (E.contents errors.new)) }
     ensures fault { IfErr result IsBatchFault }
 {
     let most = judging
@@ -146,7 +157,8 @@ fn tell_chunk<H: Threads + Wait + Sync, W: Write, E: Write>(
 
 /// The last trace text, if there is one.
 fn last_trace_texts(alloc: Global, splitter: StreamSplitter) -> Result<Vec<Vec<u8>>, OutOfMemory>
-    ensures { IfOk result (λ pieces. (rest : List ℕ) → IsAt splitter rest → rows pieces.items ≡ map (λ piece. take splitter.limit piece) (last_trace_text rest)) }
+    ensures { IfOk result (λ pieces. (rest : List ℕ) → IsAt splitter rest →
+        rows pieces.items ≡ map (λ piece. take splitter.limit piece) (last_trace_text rest)) }
 {
     let mut pieces = Vec::new(alloc);
     if let Some(piece) = splitter.last() {
@@ -165,8 +177,10 @@ fn tell<H: Threads + Wait + Sync, W: Write, E: Write>(
     errors: &mut E,
 ) -> Result<(), Fault>
     requires { 1 ≤ judging.now.options.workers }
-    ensures whole { OnOk result (WroteAll (printing_by judging.now) judging.now.kept tally.old tally.new (rows pieces.items) (W.contents writer.old) (W.contents writer.new) (E.contents errors.old) (E.contents errors.new)) }
-    ensures some { OnErr result (WroteSome (printing_by judging.now) judging.now.kept tally.old (rows pieces.items) (W.contents writer.old) (W.contents writer.new) (E.contents errors.old) (E.contents errors.new)) }
+    ensures whole { OnOk result (WroteAll (printing_by judging.now) judging.now.kept tally.old tally.new (rows pieces.items) (W.contents writer.old)
+        (W.contents writer.new) (E.contents errors.old) (E.contents errors.new)) }
+    ensures some { OnErr result (WroteSome (printing_by judging.now) judging.now.kept tally.old (rows pieces.items) (W.contents writer.old)
+        (W.contents writer.new) (E.contents errors.old) (E.contents errors.new)) }
     ensures fault { IfErr result IsBatchFault }
 {
     let jobs = judge_all(rt, judging.alloc, pieces, judging.options)?;
@@ -181,8 +195,12 @@ fn write_jobs<W: Write, E: Write>(
     writer: &mut W,
     errors: &mut E,
 ) -> Result<(), Fault>
-    ensures whole { OnOk result ((pieces : List (List ℕ)) → AreJudged (asked judging.now.options.printing) pieces jobs.now → WroteAll (printing_by judging.now) judging.now.kept tally.old tally.new pieces (W.contents writer.old) (W.contents writer.new) (E.contents errors.old) (E.contents errors.new)) }
-    ensures some { OnErr result ((pieces : List (List ℕ)) → AreJudged (asked judging.now.options.printing) pieces jobs.now → WroteSome (printing_by judging.now) judging.now.kept tally.old pieces (W.contents writer.old) (W.contents writer.new) (E.contents errors.old) (E.contents errors.new)) }
+    ensures whole { OnOk result ((pieces : List (List ℕ)) → AreJudged (asked judging.now.options.printing) pieces jobs.now →
+        WroteAll (printing_by judging.now) judging.now.kept tally.old tally.new pieces (W.contents writer.old) (W.contents writer.new) (E.contents errors.old)
+        (E.contents errors.new)) }
+    ensures some { OnErr result ((pieces : List (List ℕ)) → AreJudged (asked judging.now.options.printing) pieces jobs.now →
+        WroteSome (printing_by judging.now) judging.now.kept tally.old pieces (W.contents writer.old) (W.contents writer.new) (E.contents errors.old)
+        (E.contents errors.new)) }
     ensures fault { IfErr result (λ fault. (pieces : List (List ℕ)) → AreJudged (asked judging.now.options.printing) pieces jobs.now → IsBatchFault fault) }
 {
     for job in jobs {
@@ -206,10 +224,14 @@ fn write_result<W: Write, E: Write>(
     ensures counted { OnOk result ((judgments : List Judgment) → Counts tally.old judgments → Counts tally.new (judgments ++ judgment.now ∷ [])) }
     ensures traces { OnOk result (tally.new.traces ≡ tally.old.traces + 1) }
     ensures violations { OnOk result (tally.new.violations ≡ kept_with tally.old.violations judgment.now) }
-    ensures whole { OnOk result (Appends (W.contents writer.old) (W.contents writer.new) (trace_result_text (printing_by judging.now) (tally.old.traces + 1) piece.now judgment.now)) }
-    ensures noted { OnOk result (Appends (E.contents errors.old) (E.contents errors.new) (trace_note (printing_by judging.now) (judging.now.kept + kept_with tally.old.violations judgment.now) (tally.old.traces + 1) judgment.now)) }
-    ensures prefix { AppendsPrefix (W.contents writer.old) (W.contents writer.new) (trace_result_text (printing_by judging.now) (tally.old.traces + 1) piece.now judgment.now) }
-    ensures some { AppendsPrefix (E.contents errors.old) (E.contents errors.new) (trace_note (printing_by judging.now) (judging.now.kept + kept_with tally.old.violations judgment.now) (tally.old.traces + 1) judgment.now) }
+    ensures whole { OnOk result (Appends (W.contents writer.old) (W.contents writer.new)
+        (trace_result_text (printing_by judging.now) (tally.old.traces + 1) piece.now judgment.now)) }
+    ensures noted { OnOk result (Appends (E.contents errors.old) (E.contents errors.new)
+        (trace_note (printing_by judging.now) (judging.now.kept + kept_with tally.old.violations judgment.now) (tally.old.traces + 1) judgment.now)) }
+    ensures prefix { AppendsPrefix (W.contents writer.old) (W.contents writer.new)
+        (trace_result_text (printing_by judging.now) (tally.old.traces + 1) piece.now judgment.now) }
+    ensures some { AppendsPrefix (E.contents errors.old) (E.contents errors.new)
+        (trace_note (printing_by judging.now) (judging.now.kept + kept_with tally.old.violations judgment.now) (tally.old.traces + 1) judgment.now) }
     ensures fault { IfErr result IsBatchFault }
 {
     tally.count(judgment)?;
@@ -230,9 +252,11 @@ fn write_violating<W: Write, E: Write>(
     errors: &mut E,
 ) -> Result<(), Fault>
     ensures whole { OnOk result (Appends (W.contents writer.old) (W.contents writer.new) (violating_text piece.now judgment.now)) }
-    ensures noted { OnOk result (Appends (E.contents errors.old) (E.contents errors.new) (kept_note (last_format judging.now.options.printing) judging.now.label.now (judging.now.kept + tally.now.violations) tally.now.traces judgment.now)) }
+    ensures noted { OnOk result (Appends (E.contents errors.old) (E.contents errors.new)
+        (kept_note (last_format judging.now.options.printing) judging.now.label.now (judging.now.kept + tally.now.violations) tally.now.traces judgment.now)) }
     ensures prefix { AppendsPrefix (W.contents writer.old) (W.contents writer.new) (violating_text piece.now judgment.now) }
-    ensures some { AppendsPrefix (E.contents errors.old) (E.contents errors.new) (kept_note (last_format judging.now.options.printing) judging.now.label.now (judging.now.kept + tally.now.violations) tally.now.traces judgment.now) }
+    ensures some { AppendsPrefix (E.contents errors.old) (E.contents errors.new)
+        (kept_note (last_format judging.now.options.printing) judging.now.label.now (judging.now.kept + tally.now.violations) tally.now.traces judgment.now) }
     ensures fault { IfErr result IsBatchFault }
 {
     match judgment {
@@ -254,9 +278,11 @@ fn write_kept<W: Write, E: Write>(
     errors: &mut E,
 ) -> Result<(), Fault>
     ensures whole { OnOk result (Appends (W.contents writer.old) (W.contents writer.new) piece.now) }
-    ensures noted { OnOk result (Appends (E.contents errors.old) (E.contents errors.new) (kept_line (last_format judging.now.options.printing) judging.now.label.now (judging.now.kept + tally.now.violations) tally.now.traces)) }
+    ensures noted { OnOk result (Appends (E.contents errors.old) (E.contents errors.new)
+        (kept_line (last_format judging.now.options.printing) judging.now.label.now (judging.now.kept + tally.now.violations) tally.now.traces)) }
     ensures prefix { AppendsPrefix (W.contents writer.old) (W.contents writer.new) piece.now }
-    ensures some { AppendsPrefix (E.contents errors.old) (E.contents errors.new) (kept_line (last_format judging.now.options.printing) judging.now.label.now (judging.now.kept + tally.now.violations) tally.now.traces) }
+    ensures some { AppendsPrefix (E.contents errors.old) (E.contents errors.new)
+        (kept_line (last_format judging.now.options.printing) judging.now.label.now (judging.now.kept + tally.now.violations) tally.now.traces) }
     ensures fault { IfErr result IsBatchFault }
 {
     let kept = sum(judging.kept, tally.violations)?;

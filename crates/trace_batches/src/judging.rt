@@ -1,5 +1,5 @@
 //! Batches of texts that are judged one after the other.
-ghost use Rattle.std.specs.Prelude.{◌≡◌, ◌≤◌, ◌∷◌, [], List, IfSome, IfOk, IfErr, OnOk, OnErr, option_map, string_bytes};
+ghost use Rattle.std.specs.Prelude.{◌≡◌, ◌≤◌, [], List, IfSome, IfOk, IfErr, OnOk, OnErr, option_map, string_bytes};
 ghost use Rattle.std.specs.Io.KnownBytes.{Appends, Consumes};
 ghost use Rattle.text_streams.specs.Streams.{AppendsPrefix};
 ghost use Rattle.trace_batches.specs.BatchLines.{few_text, read_fault_text};
@@ -69,9 +69,11 @@ impl Batch {
         writer: &mut W,
         errors: &mut E,
     ) -> Result<(), Fault>
-        ensures judged { OnOk result (Judges (readable_text (option_map (λ name. name.now) name.entry) (R.remaining reader.old)) self.old self.new (W.contents writer.old) (W.contents writer.new) (E.contents errors.old) (E.contents errors.new)) }
+        ensures judged { OnOk result (Judges (readable_text (option_map (λ name. name.now) name.entry) (R.remaining reader.old)) self.old self.new
+            (W.contents writer.old) (W.contents writer.new) (E.contents errors.old) (E.contents errors.new)) }
         ensures taken { IfOk result (λ _. IfSome (R.remaining reader.old) (λ all. Consumes (R.remaining reader.old) (R.remaining reader.new) all)) }
-        ensures left { OnErr result (LeavesText (readable_text (option_map (λ name. name.now) name.entry) (R.remaining reader.old)) self.old (W.contents writer.old) (W.contents writer.new) (E.contents errors.old) (E.contents errors.new)) }
+        ensures left { OnErr result (LeavesText (readable_text (option_map (λ name. name.now) name.entry) (R.remaining reader.old)) self.old
+            (W.contents writer.old) (W.contents writer.new) (E.contents errors.old) (E.contents errors.new)) }
         ensures fault { IfErr result IsBatchFault }
     {
         let label = self.label_of(name)?;
@@ -96,8 +98,10 @@ impl Batch {
         writer: &mut W,
         errors: &mut E,
     ) -> Result<(), Fault>
-        ensures judged { OnOk result (Judges (unreadable_text (option_map (λ name. name.now) name.entry)) self.old self.new (W.contents writer.old) (W.contents writer.new) (E.contents errors.old) (E.contents errors.new)) }
-        ensures left { OnErr result (LeavesText (unreadable_text (option_map (λ name. name.now) name.entry)) self.old (W.contents writer.old) (W.contents writer.new) (E.contents errors.old) (E.contents errors.new)) }
+        ensures judged { OnOk result (Judges (unreadable_text (option_map (λ name. name.now) name.entry)) self.old self.new (W.contents writer.old)
+            (W.contents writer.new) (E.contents errors.old) (E.contents errors.new)) }
+        ensures left { OnErr result (LeavesText (unreadable_text (option_map (λ name. name.now) name.entry)) self.old (W.contents writer.old)
+            (W.contents writer.new) (E.contents errors.old) (E.contents errors.new)) }
         ensures fault { IfErr result IsBatchFault }
     {
         let label = self.label_of(name)?;
@@ -143,7 +147,8 @@ impl Batch {
 
     /// What the batch says of its texts.
     fn verdict(&self) -> Answer
-        ensures { (judgments : List Judgment) → Counts self.now.tally judgments → result ≡ verdict_with self.now.is_unread self.now.options.printing.required judgments }
+        ensures { (judgments : List Judgment) → Counts self.now.tally judgments →
+            result ≡ verdict_with self.now.is_unread self.now.options.printing.required judgments }
     {
         if self.is_unread {
             Answer::Unread
@@ -175,9 +180,11 @@ pub fn judge_batch<H: Threads + Wait + Sync, R: Read, W: Write, E: Write>(
     errors: &mut E,
 ) -> Result<Answer, Fault>
     requires { 1 ≤ options.workers }
-    ensures whole { IfOk result (WritesBatch options.printing (one_text (R.remaining reader.old)) (W.contents writer.old) (W.contents writer.new) (E.contents errors.old) (E.contents errors.new)) }
+    ensures whole { IfOk result (WritesBatch options.printing (one_text (R.remaining reader.old)) (W.contents writer.old) (W.contents writer.new)
+        (E.contents errors.old) (E.contents errors.new)) }
     ensures taken { IfOk result (λ _. IfSome (R.remaining reader.old) (λ all. Consumes (R.remaining reader.old) (R.remaining reader.new) all)) }
-    ensures left { OnErr result (LeavesBatch options.printing (one_text (R.remaining reader.old)) (W.contents writer.old) (W.contents writer.new) (E.contents errors.old) (E.contents errors.new)) }
+    ensures left { OnErr result (LeavesBatch options.printing (one_text (R.remaining reader.old)) (W.contents writer.old) (W.contents writer.new)
+        (E.contents errors.old) (E.contents errors.new)) }
     ensures fault { IfErr result IsBatchFault }
 {
     let mut batch = Batch::begin(alloc, options, writer)?;

@@ -1,7 +1,6 @@
 //! What is said of a trace text of a stream.
 ghost use Rattle.std.specs.Prelude.{◌≡◌, ◌≢◌, ℕ, List, IfOk, IfErr};
 ghost use Rattle.tso_text.specs.Refusals.{IsTraceRefusal};
-ghost use Rattle.tso_text.specs.Texts.{SpellsTrace};
 ghost use Rattle.tso_text.specs.declared.faults.Why.{Why};
 ghost use Rattle.trace_reports.specs.Findings.{IsFinding};
 ghost use Rattle.trace_batches.specs.Batches.{IsBatchFault};
@@ -150,7 +149,8 @@ fn is_order(evidence: &Evidence) -> bool
 /// What is said of a trace text that is refused for this fault. OutOfMemory where the fault says that an allocation was
 /// refused.
 fn refused_for(fault: TextFault) -> Result<Judgment, Fault>
-    ensures said { IfOk result (λ judgment. (question : BatchQuestion) (piece : List ℕ) → (fault.why ≢ Why.OutOfMemory → IsTraceRefusal piece fault.line fault.why) → IsJudgment question piece judgment) }
+    ensures said { IfOk result (λ judgment. (question : BatchQuestion) (piece : List ℕ) →
+        (fault.why ≢ Why.OutOfMemory → IsTraceRefusal piece fault.line fault.why) → IsJudgment question piece judgment) }
     ensures fault { IfErr result IsBatchFault }
 {
     if fault.why == Why::OutOfMemory {

@@ -1,5 +1,5 @@
 //! The lines of a batch, in words, in JSON and in JUnit's XML.
-ghost use Rattle.std.specs.Prelude.{◌≡◌, ◌∷◌, ◌++◌, [], IfOk, codes, string_bytes};
+ghost use Rattle.std.specs.Prelude.{◌≡◌, ◌++◌, IfOk, codes, string_bytes};
 ghost use Rattle.std.specs.Fmt.{decimal};
 ghost use Rattle.trace_batches.specs.Batches.{batch_head_text, is_left_out, last_format, note_format, written_line};
 ghost use Rattle.trace_batches.specs.Internal.Progress.{printing_by};

@@ -1,5 +1,5 @@
 //! The suites of a document in JUnit's XML. A suite's numbers come before its tests, so that each trace has a suite of its own.
-ghost use Rattle.std.specs.Prelude.{◌≡◌, ◌++◌, IfOk, codes, option_map, string_bytes};
+ghost use Rattle.std.specs.Prelude.{◌≡◌, IfOk, option_map, string_bytes};
 ghost use Rattle.trace_batches.specs.BatchLines.{junit_error, junit_failure, junit_line, junit_skipped, junit_suite, junit_trace, suite_case, suite_start, total_suite, unread_suite};
 
 use crate::judgments::Judgment;

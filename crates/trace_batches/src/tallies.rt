@@ -52,7 +52,8 @@ impl Tally {
 
     /// Adds the numbers of others. Read where a sum is 2^64 or more.
     pub(crate) fn add(&mut self, more: &Tally) -> Result<(), Fault>
-        ensures added { OnOk result ((judgments others : List Judgment) → Counts self.old judgments → Counts more.now others → Counts self.new (judgments ++ others)) }
+        ensures added { OnOk result ((judgments others : List Judgment) → Counts self.old judgments → Counts more.now others →
+            Counts self.new (judgments ++ others)) }
         ensures fault { IfErr result (λ fault. fault ≡ Fault.Read) }
     {
         self.traces = sum(self.traces, more.traces)?;

@@ -1,5 +1,5 @@
 //! The last line of a batch, in words, in JSON and in JUnit's XML, and the line that says that too few traces were judged.
-ghost use Rattle.std.specs.Prelude.{◌≡◌, ◌++◌, IfOk, codes, string_bytes};
+ghost use Rattle.std.specs.Prelude.{◌≡◌, IfOk, string_bytes};
 ghost use Rattle.trace_batches.specs.BatchLines.{batch_total_text, decided_json, decided_words, few_line, judged_json, judged_words, total_json, total_words};
 
 use crate::suites::total_suite;

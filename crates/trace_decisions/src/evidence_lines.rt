@@ -1,9 +1,8 @@
 //! The line on evidence.
 ghost use Rattle.std.specs.Prelude.{◌≡◌, ◌++◌, IfOk, codes, string_bytes};
-ghost use Rattle.tso_ops.specs.Limits.{IsTrace};
 ghost use Rattle.trace_reports.specs.declared.answers.Answer.{Answer};
 ghost use Rattle.trace_decisions.specs.DecisionTexts.{AnswerSays};
-ghost use Rattle.trace_decisions.specs.EvidenceReports.{IsEvidenceLine, IsEvidenceReport, evidence_holds_text, evidence_refusal_text, order_fault_text, refutation_fault_text};
+ghost use Rattle.trace_decisions.specs.EvidenceReports.{IsEvidenceLine, IsEvidenceReport, evidence_refusal_text, order_fault_text, refutation_fault_text};
 
 use crate::texts::answer_by;
 use order_check::{OrderFault, check_order};

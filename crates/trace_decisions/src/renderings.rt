@@ -1,6 +1,6 @@
 //! The text of a decision.
 ghost use Rattle.std.specs.Prelude.{◌≡◌, ◌++◌, refl, IfOk, OnOk, string_bytes};
-ghost use Rattle.trace_reports.specs.Reports.{refusal_shown};
+ghost use Rattle.trace_reports.specs.Reports.{rendered_refusal};
 ghost use Rattle.trace_decisions.specs.DecisionTexts.{answer_line, decided_line, decision_head, decision_text, rendered_evidence};
 
 use crate::decisions::Decision;
@@ -18,7 +18,7 @@ pub struct AsDecision;
 impl Rendering<Trace, Decision> for AsDecision {
     ghost rendered = { λ form. decision_text };
 
-    ghost refused = { λ form. refusal_shown };
+    ghost refused = { λ form. rendered_refusal };
 
     fn text_of_found(
         &self,

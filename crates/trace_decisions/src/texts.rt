@@ -35,10 +35,12 @@ pub fn decide_input<H: Threads + Wait, R: Read, W: Write, P: Rendering<Trace, De
 ) -> Result<Answer, Fault>
     requires some { 1 ≤ question.workers }
     requires most { question.workers ≤ worker_limit }
-    ensures decided { IfOk result (WritesWhole (IsDecisionOfReader (P.rendered rendering.now) (P.refused rendering.now) question.effort (R.remaining reader.old)) (W.contents writer.old) (W.contents writer.new)) }
+    ensures decided { IfOk result (WritesWhole (IsDecisionOfReader (P.rendered rendering.now) (P.refused rendering.now) question.effort
+        (R.remaining reader.old)) (W.contents writer.old) (W.contents writer.new)) }
     ensures says { IfOk result (λ answer. IfSome (R.remaining reader.old) (λ all. (t : TraceValue) → SpellsTrace all t → AnswerSays t answer)) }
     ensures taken { IfOk result (λ _. LosesPrefix trace_read_limit (R.remaining reader.old) (R.remaining reader.new)) }
-    ensures fault { IfErr result (LeavesAtFault (IsDecisionOfReader (P.rendered rendering.now) (P.refused rendering.now) question.effort (R.remaining reader.old)) (W.contents writer.old) (W.contents writer.new)) }
+    ensures fault { IfErr result (LeavesAtFault (IsDecisionOfReader (P.rendered rendering.now) (P.refused rendering.now) question.effort
+        (R.remaining reader.old)) (W.contents writer.old) (W.contents writer.new)) }
 {
     answer_reader(rt, alloc, reader, writer, &question, rendering)
 }

@@ -32,12 +32,15 @@ pub fn verify_texts<T: Read, E: Read, W: Write>(
     evidence: &mut E,
     writer: &mut W,
 ) -> Result<Answer, Fault>
-    ensures report { IfOk result (WritesWhole (IsVerificationOfReaders (T.remaining traces.old) (E.remaining evidence.old)) (W.contents writer.old) (W.contents writer.new)) }
+    ensures report { IfOk result (WritesWhole (IsVerificationOfReaders (T.remaining traces.old) (E.remaining evidence.old)) (W.contents writer.old)
+        (W.contents writer.new)) }
     ensures says { IfOk result (λ answer. IfSome (T.remaining traces.old) (λ all. (t : TraceValue) → SpellsTrace all t → AnswerSays t answer)) }
     ensures taken { IfOk result (λ _. LosesPrefix trace_read_limit (T.remaining traces.old) (T.remaining traces.new)) }
-    ensures taken_after { IfOk result (λ _. evidence.new ≡ evidence.old ⊎ LosesPrefix certificate_read_limit (E.remaining evidence.old) (E.remaining evidence.new)) }
+    ensures taken_after { IfOk result (λ _. evidence.new ≡ evidence.old ⊎
+        LosesPrefix certificate_read_limit (E.remaining evidence.old) (E.remaining evidence.new)) }
     ensures unread { IfSome (T.remaining traces.old) (λ trace. IsRefusedTrace trace → evidence.new ≡ evidence.old) }
-    ensures fault { IfErr result (LeavesAtFault (IsVerificationOfReaders (T.remaining traces.old) (E.remaining evidence.old)) (W.contents writer.old) (W.contents writer.new)) }
+    ensures fault { IfErr result (LeavesAtFault (IsVerificationOfReaders (T.remaining traces.old) (E.remaining evidence.old)) (W.contents writer.old)
+        (W.contents writer.new)) }
     ensures no_thread { IfErr result (λ fault. fault ≢ Fault.NoThread) }
 {
     check_evidence(alloc, &OrdersAndRefutations, traces, evidence, writer)

@@ -83,9 +83,9 @@ got steps i (Some s) at = ap Some (at.1 s.now) ∙ sym (slice_get-get_or steps i
 
 -- ---- marks
 
-pub marks-none : (t : TraceValue) (steps : List CertStep) (count : ℕ) (marks : List Bool) → length marks ≡ count → ((n : ℕ) → n < count → get_or marks n false ≡ false) → AreMarks (is_named t []) count marks
+pub marks-none : {Line : Type 0} (numbers : Line → List ℕ) (count : ℕ) (marks : List Bool) → length marks ≡ count → ((n : ℕ) → n < count → get_or marks n false ≡ false) → AreMarks (is_named numbers []) count marks
 unfolding is_named
-marks-none t steps count marks counted unmarked = record { counted = counted; each = unmarked }
+marks-none numbers count marks counted unmarked = record { counted = counted; each = unmarked }
 
 or_swap : (a b : Bool) → (a || b) ≡ (b || (a || false))
 or_swap true true = refl
@@ -93,18 +93,18 @@ or_swap true false = refl
 or_swap false true = refl
 or_swap false false = refl
 
--- one more step
-pub marks-more : (t : TraceValue) (steps : List CertStep) (i count : ℕ) (s : CertStep) (old new : List Bool) → i < length steps → s ≡ get_or steps i s → AreMarks (is_named t (take i steps)) count old →
-    length new ≡ length old → ((n : ℕ) → n < length old → get_or new n false ≡ (is_among n (step_numbers t s) || get_or old n false)) → AreMarks (is_named t (take (i + 1) steps)) count new
+-- one more line
+pub marks-more : {Line : Type 0} (numbers : Line → List ℕ) (lines : List Line) (i count : ℕ) (line : Line) (old new : List Bool) → i < length lines → line ≡ get_or lines i line → AreMarks (is_named numbers (take i lines)) count old →
+    length new ≡ length old → ((n : ℕ) → n < length old → get_or new n false ≡ (is_among n (numbers line) || get_or old n false)) → AreMarks (is_named numbers (take (i + 1) lines)) count new
 unfolding is_named
-marks-more t steps i count s old new within at before same marked =
-    let more : take (i + 1) steps ≡ take i steps ++ s ∷ [] = take_more steps i s within ∙ ap (λ r. take i steps ++ r ∷ []) (sym at) in
+marks-more numbers lines i count line old new within at before same marked =
+    let more : take (i + 1) lines ≡ take i lines ++ line ∷ [] = take_more lines i line within ∙ ap (λ r. take i lines ++ r ∷ []) (sym at) in
     record {
       counted = same ∙ before.counted;
       each = λ n inside.
-          marked n (omega (arith, before.counted)) ∙ ap (λ b. is_among n (step_numbers t s) || b) (before.each n inside)
-          ∙ or_swap (is_among n (step_numbers t s)) (list_any (λ d. is_among n (step_numbers t d)) (take i steps))
-          ∙ sym (list_any-append (λ d. is_among n (step_numbers t d)) (take i steps) (s ∷ [])) ∙ ap (list_any (λ d. is_among n (step_numbers t d))) (sym more);
+          marked n (omega (arith, before.counted)) ∙ ap (λ b. is_among n (numbers line) || b) (before.each n inside)
+          ∙ or_swap (is_among n (numbers line)) (list_any (λ l. is_among n (numbers l)) (take i lines))
+          ∙ sym (list_any-append (λ l. is_among n (numbers l)) (take i lines) (line ∷ [])) ∙ ap (list_any (λ l. is_among n (numbers l))) (sym more);
     }
 
 -- ---- loads

@@ -103,21 +103,21 @@ missed_line naming t steps walk =
     option_map_or (λ s. missed_by naming t walk (missed_path t s.from s.to s.reason)) (find (is_edge (last_or_zero walk, get_or walk 0 0)) steps) []
 
 -- this path, by which a load sees the store that it missed, begins on the load's processor or goes over another address
-abbrev pub tells_more : TraceValue → ℕ → List ℕ → Bool
-tells_more t u path = on_one_processor t u (last_or_zero path) || leaves_address t (address_at t u) path
+abbrev pub explains_more : TraceValue → ℕ → List ℕ → Bool
+explains_more t u path = on_one_processor t u (last_or_zero path) || leaves_address t (address_at t u) path
 
 -- the path does by which a load sees the store that it missed, to which this walk leads from what it read
 abbrev pub misses_more : TraceValue → List CertStep → List ℕ → Bool
-misses_more t steps walk = option_map_or (λ s. tells_more t (last_or_zero walk) (missed_path t s.from s.to s.reason)) (find (is_edge (last_or_zero walk, get_or walk 0 0)) steps) false
+misses_more t steps walk = option_map_or (λ s. explains_more t (last_or_zero walk) (missed_path t s.from s.to s.reason)) (find (is_edge (last_or_zero walk, get_or walk 0 0)) steps) false
 
 -- in the cycle the walk from a store to a swap's load that missed it only shows that these stores have two orders, and another load missed one of them
-abbrev pub gives_way : TraceValue → List CertStep → List ℕ → List ℕ → Bool
-gives_way t steps cycle walk =
+abbrev pub explains_less : TraceValue → List CertStep → List ℕ → List ℕ → Bool
+explains_less t steps cycle walk =
     is_torn (cycle_shape t walk) && not (only_closes t walk (closing_path steps walk)) && option_map_or (misses_more t steps) (missed_walk steps cycle) false
 
 -- the walk from a store to the first load that missed it, unless it gives way to that of another load
 abbrev pub stale_walk : TraceValue → List CertStep → List ℕ → Option (List ℕ)
-stale_walk t steps cycle = option_map_or (λ walk. cond (gives_way t steps cycle walk) None (Some walk)) (walk_by steps FromRead cycle) None
+stale_walk t steps cycle = option_map_or (λ walk. cond (explains_less t steps cycle walk) None (Some walk)) (walk_by steps FromRead cycle) None
 
 -- a walk from a load to a store that it read
 unfoldable pub future_line : NamingValue → TraceValue → List ℕ → List ℕ

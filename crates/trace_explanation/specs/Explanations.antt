@@ -18,7 +18,7 @@ use Rattle.trace_explanation.specs.declared.subjects.Subject.{Subject}
 use Rattle.trace_explanation.specs.Names.{event_numbers, is_store_where}
 use Rattle.trace_explanation.specs.Namings.{address_named, line_named, name_text, naming_of, noun, NamingValue}
 use Rattle.trace_explanation.specs.Places.{place_text}
-use Rattle.trace_explanation.specs.Steps.{is_edge, is_named, links_of, step_number}
+use Rattle.trace_explanation.specs.Steps.{is_edge, is_named, links_of, step_number, step_numbers}
 use Rattle.trace_explanation.specs.Words.{reason_short, reason_long}
 
 -- the name of the memory model
@@ -67,7 +67,7 @@ unfoldable pub cycle_text : NamingValue → TraceValue → List CertStep → Lis
 cycle_text naming t steps cycle =
     diagnosis_text naming t steps cycle ++ cycle_head t.setting.order naming.subject ++ chain_text naming t steps cycle
     ++ codes "\nWhy each step holds, the last step first. A step rests only on steps of smaller numbers.\n\n" ++ flat_map (λ numbered. step_text naming t steps numbered.0 numbered.1) (reverse (enumerate_from 1 steps))
-    ++ places_head naming.subject ++ flat_map (place_text naming t) (filter (is_named t steps) (event_numbers t))
+    ++ places_head naming.subject ++ flat_map (place_text naming t) (filter (is_named (step_numbers t) steps) (event_numbers t))
 
 -- ---- an unwritten load
 

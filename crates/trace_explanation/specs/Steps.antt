@@ -69,6 +69,6 @@ step_numbers t s = s.from ∷ s.to ∷ option_to_list (step_load t s)
 abbrev pub is_among : ℕ → List ℕ → Bool
 is_among n numbers = list_any (λ m. m == n) numbers
 
--- one of the steps names event n
-unfoldable pub is_named : TraceValue → List CertStep → ℕ → Bool
-is_named t steps n = list_any (λ s. is_among n (step_numbers t s)) steps
+-- one of the lines, each of which names numbers, names event n
+unfoldable pub is_named : {Line : Type 0} → (Line → List ℕ) → List Line → ℕ → Bool
+is_named numbers lines n = list_any (λ line. is_among n (numbers line)) lines

@@ -7,7 +7,7 @@ ghost use Rattle.trace_explanation.specs.Explanations.{chain_text, cycle_head, c
 
 use crate::diagnoses::push_diagnosis;
 use crate::links::list_links;
-use crate::marks::list_named;
+use crate::marks::{EventsOfSteps, list_named};
 use crate::names::NamedTrace;
 use crate::numbers::NumberedSteps;
 use crate::subjects::{Subject, noun};
@@ -38,7 +38,12 @@ pub(crate) fn push_cycle(
     )?;
     push_steps(alloc, text, named, &numbered)?;
     push_places_head(text, named.names.subject())?;
-    push_places(alloc, text, named, &list_named(alloc, named.trace, steps)?)
+    push_places(
+        alloc,
+        text,
+        named,
+        &list_named(alloc, &EventsOfSteps, named.trace, steps)?,
+    )
 }
 
 /// Appends what the memory model asks for.
@@ -112,7 +117,8 @@ fn push_links(
     numbered: &NumberedSteps<'_>,
     links: &[(u64, u64)],
 ) -> Result<(), AllocError>
-    ensures { OnOk result (string_bytes text.new ≡ string_bytes text.old ++ flat_map (link_text named.now.names.now named.now.trace.now numbered.now) links.now) }
+    ensures { OnOk result (string_bytes text.new ≡ string_bytes text.old ++
+        flat_map (link_text named.now.names.now named.now.trace.now numbered.now) links.now) }
 {
     for link in links {
         push_link(alloc, text, named, numbered, *link)?;
@@ -144,7 +150,8 @@ fn short_of(
     named: &NamedTrace<'_>,
     step: Option<&CertStep>,
 ) -> Result<String, AllocError>
-    ensures { IfOk result (λ text. string_bytes text ≡ option_map_or (λ s. reason_short named.now.names.now named.now.trace.now s.from s.to s.reason) (option_copied step.entry) []) }
+    ensures { IfOk result (λ text. string_bytes text ≡ option_map_or (λ s. reason_short named.now.names.now named.now.trace.now s.from s.to s.reason)
+        (option_copied step.entry) []) }
 {
     match step {
         Some(step) => short_words(alloc, named, step),
@@ -159,7 +166,8 @@ fn push_steps(
     named: &NamedTrace<'_>,
     numbered: &NumberedSteps<'_>,
 ) -> Result<(), AllocError>
-    ensures { OnOk result (string_bytes text.new ≡ string_bytes text.old ++ flat_map (λ n. step_text named.now.names.now named.now.trace.now numbered.now n.0 n.1) (reverse (enumerate_from 1 numbered.now))) }
+    ensures { OnOk result (string_bytes text.new ≡ string_bytes text.old ++
+        flat_map (λ n. step_text named.now.names.now named.now.trace.now numbered.now n.0 n.1) (reverse (enumerate_from 1 numbered.now))) }
 {
     let steps = numbered.steps();
     for done in 0..steps.len() {

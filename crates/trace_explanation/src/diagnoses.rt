@@ -1,6 +1,6 @@
 //! The line that begins the explanation of a cycle.
 ghost use Rattle.std.specs.Prelude.{◌≡◌, ◌++◌, option_map, string_bytes, OnOk, IfOk};
-ghost use Rattle.trace_explanation.specs.Diagnoses.{diagnosis_by, diagnosis_text, future_line, gives_way, is_direct, missed_by, missed_line, missed_path, misses_more, stale_by, stale_line, stale_walk, tells_more};
+ghost use Rattle.trace_explanation.specs.Diagnoses.{diagnosis_by, diagnosis_text, future_line, explains_less, is_direct, missed_by, missed_line, missed_path, misses_more, stale_by, stale_line, stale_walk, explains_more};
 
 use crate::closed_paths::{closing_path, is_torn, leaves_address, only_closes, stale_cycle};
 use crate::cycle_names::shape_text;
@@ -53,7 +53,7 @@ pub(crate) fn stale_walk(
 {
     match walk_by(alloc, numbered, EdgeKind::FromRead, cycle)? {
         Some(walk) => {
-            if gives_way(alloc, trace, numbered, cycle, &walk)? {
+            if explains_less(alloc, trace, numbered, cycle, &walk)? {
                 Ok(None)
             } else {
                 Ok(Some(walk))
@@ -65,22 +65,22 @@ pub(crate) fn stale_walk(
 
 /// Whether in the cycle the walk from a store to a swap's load that missed it only shows that these stores have two orders, and
 /// another load missed one of them.
-fn gives_way(
+fn explains_less(
     alloc: Global,
     trace: &Trace,
     numbered: &NumberedSteps<'_>,
     cycle: &[u64],
     walk: &[u64],
 ) -> Result<bool, AllocError>
-    ensures { IfOk result (λ gives. gives ≡ gives_way trace.now numbered.now cycle.now walk.now) }
+    ensures { IfOk result (λ gives. gives ≡ explains_less trace.now numbered.now cycle.now walk.now) }
 {
     let shape = cycle_shape(alloc, trace, walk)?;
     let closes = only_closes(alloc, trace, walk, closing_path(numbered, walk))?;
-    let tells_more = match missed_walk(alloc, numbered, cycle)? {
+    let explains_more = match missed_walk(alloc, numbered, cycle)? {
         Some(missed) => misses_more(alloc, trace, numbered, &missed)?,
         None => false,
     };
-    Ok(is_torn(&shape) && !closes && tells_more)
+    Ok(is_torn(&shape) && !closes && explains_more)
 }
 
 /// Whether the path by which a load sees the store that it missed, to which this walk leads from what it read, begins on the load's
@@ -97,15 +97,15 @@ fn misses_more(
     match numbered.step(store, item(walk, 0)) {
         Some(step) => {
             let path = missed_path(alloc, trace, step)?;
-            tells_more(alloc, trace, store as usize, &path)
+            explains_more(alloc, trace, store as usize, &path)
         }
         None => Ok(false),
     }
 }
 
 /// Whether this path, by which a load sees store `u`, begins on the load's processor or goes over another address.
-fn tells_more(alloc: Global, trace: &Trace, u: usize, path: &[u64]) -> Result<bool, AllocError>
-    ensures { IfOk result (λ tells. tells ≡ tells_more trace.now u path.now) }
+fn explains_more(alloc: Global, trace: &Trace, u: usize, path: &[u64]) -> Result<bool, AllocError>
+    ensures { IfOk result (λ tells. tells ≡ explains_more trace.now u path.now) }
 {
     let leaves = leaves_address(alloc, trace, address_of(trace, u), path)?;
     Ok(on_one_processor(trace, u, last_of(path) as usize) || leaves)

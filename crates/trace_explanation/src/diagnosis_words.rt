@@ -1,7 +1,5 @@
 //! What a diagnosis says of loads and stores.
-ghost use Rattle.std.specs.Prelude.{◌≡◌, ◌++◌, ◌==◌, ◌&&◌, [], find, not, reverse, string_bytes, OnOk, IfOk};
-ghost use Rattle.std.specs.Option.{option_map_or};
-ghost use Rattle.trace_explanation.specs.Steps.{links_of};
+ghost use Rattle.std.specs.Prelude.{◌≡◌, ◌==◌, ◌&&◌, find, reverse, string_bytes, IfOk};
 ghost use Rattle.trace_explanation.specs.Diagnoses.{arrival_words, arrives, before_words, load_words, order_words, place_words, seen_words, store_words, stored_words};
 
 use crate::cycle_shapes::{is_load, is_one_operation, on_one_processor, reads_from};

@@ -29,7 +29,8 @@ ghost use Rattle.trace_explanation.specs.declared.unfolded_cycles.EdgeKind.{Edge
 /// is asked of the edge's load alone. If an Own edge leads to `init`, no order meets that, and the law on its sentence is
 /// `own_to_init_sentences_are_true`.
 pub fn base_sentences_are_true()
-    ensures { (t : TraceValue) (order : List ℕ) → IsTrace t → IsMemoryOrder t order → (rule : BaseRule) (u v l : ℕ) → BaseAxiom t order rule v l → BasePair t rule u v → (rule ≡ BaseRule.Own → IsOwnBy t l u v) → BaseSays t order rule u v l }
+    ensures { (t : TraceValue) (order : List ℕ) → IsTrace t → IsMemoryOrder t order → (rule : BaseRule) (u v l : ℕ) → BaseAxiom t order rule v l →
+        BasePair t rule u v → (rule ≡ BaseRule.Own → IsOwnBy t l u v) → BaseSays t order rule u v l }
 {}
 
 /// What the sentence of an inferred rule says of an edge that the rule gives is true of every memory order that meets the
@@ -37,7 +38,8 @@ pub fn base_sentences_are_true()
 /// LoadPast edge leads to `init`, there is no such order, and the law on its sentence is
 /// `load_past_to_init_sentences_are_true`.
 pub fn inferred_sentences_are_true()
-    ensures { (t : TraceValue) (order : List ℕ) → IsTrace t → IsMemoryOrder t order → (rule : InferredRule) (l u v x y : ℕ) → InferredAxiom t order rule l → InferredBy t rule l u v x y → IsBefore order x y → InferredSays t order rule l u v x y }
+    ensures { (t : TraceValue) (order : List ℕ) → IsTrace t → IsMemoryOrder t order → (rule : InferredRule) (l u v x y : ℕ) → InferredAxiom t order rule l →
+        InferredBy t rule l u v x y → IsBefore order x y → InferredSays t order rule l u v x y }
 {}
 
 /// If an Own edge leads to `init`, what its sentence says but for its last words is true of every memory order: the load sees
@@ -53,7 +55,8 @@ pub fn own_to_init_sentences_are_true()
 /// something else, the first value of its address. So no memory order in which the events of the path stand in order lets the
 /// load read what it read.
 pub fn load_past_to_init_sentences_are_true()
-    ensures { (t : TraceValue) (order : List ℕ) → IsTrace t → IsMemoryOrder t order → (l u x y : ℕ) → InferredBy t InferredRule.LoadPast l u 0 x y → IsBefore order x y → LoadPastToInitSays t order l u x y }
+    ensures { (t : TraceValue) (order : List ℕ) → IsTrace t → IsMemoryOrder t order → (l u x y : ℕ) → InferredBy t InferredRule.LoadPast l u 0 x y →
+        IsBefore order x y → LoadPastToInitSays t order l u x y }
 {}
 
 /// Of any two events of a trace, some memory order puts the first before the second. So the laws on edges to `init` speak of
@@ -70,7 +73,8 @@ pub fn own_loads_give_edges()
 /// Where the steps hold, a step rests only on steps of smaller numbers: each edge of its path has a number, which is below
 /// its own.
 pub fn steps_rest_on_smaller_numbers()
-    ensures { (t : TraceValue) (steps : List CertStep) → StepsHold t steps → (k : ℕ) (s : CertStep) (rule : InferredRule) (load : ℕ) (path : List ℕ) → slice_get steps k ≡ Some s →
+    ensures { (t : TraceValue) (steps : List CertStep) → StepsHold t steps → (k : ℕ) (s : CertStep) (rule : InferredRule) (load : ℕ) (path : List ℕ) →
+        slice_get steps k ≡ Some s →
         s.reason ≡ Inferred rule load path → (x y : ℕ) → AreNeighbours path x y → (0 < step_number steps (x, y)) × (step_number steps (x, y) ≤ k) }
 {}
 
@@ -78,7 +82,8 @@ pub fn steps_rest_on_smaller_numbers()
 /// that says the operation.
 pub fn operations_stand_on_their_lines()
     ensures lines { (t : TraceValue) → trace_text t ≡ flat_map ended_line (text_lines t) }
-    ensures operation { (t : TraceValue) (n : ℕ) (o : EventOperation) → operation_at t n ≡ Some o → (0 < o.line) × (slice_get (text_lines t) (o.line - 1) ≡ Some (outcome_text o.outcome)) }
+    ensures operation { (t : TraceValue) (n : ℕ) (o : EventOperation) → operation_at t n ≡ Some o → (0 < o.line) ×
+        (slice_get (text_lines t) (o.line - 1) ≡ Some (outcome_text o.outcome)) }
 {}
 
 /// A diagnosis speaks of the two ends of a step: the walk that it goes by begins where the step leads, and ends where the step

@@ -11,7 +11,7 @@ pub use explanations::{explain, explain_named};
 pub use field_edges::{FieldEdge, field_edge, field_name};
 pub use links::list_links;
 pub use loads::step_load;
-pub use marks::{mark_number, mark_step};
+pub use marks::{EventsOfSteps, NamesEvents, list_named, mark_number};
 pub use names::{NamedTrace, address_of, outcome_text, part_text, source_of};
 pub use namings::EventNames;
 pub use numbers::NumberedSteps;

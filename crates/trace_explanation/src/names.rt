@@ -46,7 +46,8 @@ impl<'t> NamedTrace<'t> {
     /// What load `l` read, after the word that says so: nothing where it is no load or has no source. OutOfMemory where
     /// an allocation was refused.
     fn also_read(&self, alloc: Global, l: usize) -> Result<String, AllocError>
-        ensures { IfOk result (λ text. string_bytes text ≡ option_map_or (λ s. codes " read " ++ source_text self.now.names.now l s) (source_of self.now.trace.now l) []) }
+        ensures { IfOk result (λ text. string_bytes text ≡ option_map_or (λ s. codes " read " ++ source_text self.now.names.now l s)
+            (source_of self.now.trace.now l) []) }
     {
         match source_of(self.trace, l) {
             Some(s) => {

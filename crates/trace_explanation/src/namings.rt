@@ -1,5 +1,5 @@
 //! What an explanation calls the events of a trace.
-ghost use Rattle.std.specs.Prelude.{◌≡◌, ◌++◌, [], List, String, map, suc, string_bytes, IfOk};
+ghost use Rattle.std.specs.Prelude.{◌≡◌, [], String, map, suc, string_bytes, IfOk};
 ghost use Rattle.std.specs.Option.{option_map_or};
 ghost use Rattle.std.specs.Global.{Global};
 ghost use Rattle.tso_ops.specs.Operations.{operations_of};
@@ -29,7 +29,13 @@ impl Model for EventNames {
 
     ghost Value = { NamingValue };
 
-    ghost view = { λ n. record { subject = n.subject; names = map string_bytes n.names.items; processors = n.processors.items; lines = n.lines.items; addresses = n.addresses.items } };
+    ghost view = { λ n. record {
+      subject = n.subject;
+      names = map string_bytes n.names.items;
+      processors = n.processors.items;
+      lines = n.lines.items;
+      addresses = n.addresses.items;
+    } };
 }
 
 impl EventNames {
@@ -41,7 +47,13 @@ impl EventNames {
         lines: Vec<usize>,
         addresses: Vec<u64>,
     ) -> EventNames
-        ensures { result ≡ record { subject = Subject.Log; names = map string_bytes names.items; processors = processors.items; lines = lines.items; addresses = addresses.items } }
+        ensures { result ≡ record {
+          subject = Subject.Log;
+          names = map string_bytes names.items;
+          processors = processors.items;
+          lines = lines.items;
+          addresses = addresses.items;
+        } }
     {
         EventNames {
             subject: Subject::Log,
@@ -140,7 +152,8 @@ fn list_names(
     trace: &Trace,
     operations: &Operations,
 ) -> Result<Vec<String>, AllocError>
-    ensures { operations.now.operations.items ≡ operations_of trace.now → IfOk result (λ names. map string_bytes names.items ≡ map (own_name trace.now) (event_numbers trace.now)) }
+    ensures { operations.now.operations.items ≡ operations_of trace.now →
+        IfOk result (λ names. map string_bytes names.items ≡ map (own_name trace.now) (event_numbers trace.now)) }
 {
     let mut names = Vec::new(alloc);
     for n in 0..trace.events() {
@@ -155,7 +168,8 @@ fn list_lines(
     trace: &Trace,
     operations: &Operations,
 ) -> Result<Vec<usize>, AllocError>
-    ensures { operations.now.operations.items ≡ operations_of trace.now → IfOk result (λ lines. lines.items ≡ map (line_at trace.now) (event_numbers trace.now)) }
+    ensures { operations.now.operations.items ≡ operations_of trace.now →
+        IfOk result (λ lines. lines.items ≡ map (line_at trace.now) (event_numbers trace.now)) }
 {
     let mut lines = Vec::new(alloc);
     for n in 0..trace.events() {

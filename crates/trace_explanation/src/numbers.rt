@@ -1,5 +1,5 @@
 //! The numbers of a certificate's steps.
-ghost use Rattle.std.specs.Prelude.{◌≡◌, ◌++◌, ◌∷◌, ℕ, List, codes, cond, length, nat_lt, string_bytes, IfOk, OnOk};
+ghost use Rattle.std.specs.Prelude.{◌≡◌, ◌++◌, ◌∷◌, List, codes, cond, length, nat_lt, string_bytes, IfOk, OnOk};
 ghost use Rattle.std.specs.Fmt.{decimal};
 ghost use Rattle.std.specs.List.{find, flat_map, zip};
 ghost use Rattle.std.specs.Option.{option_copied};
@@ -86,7 +86,8 @@ impl<'s> NumberedSteps<'s> {
 
     /// Appends the numbers of the edges from `y` along these numbers, each after a comma.
     fn push_more(&self, text: &mut String, y: u64, rest: &[u64]) -> Result<(), AllocError>
-        ensures { OnOk result (string_bytes text.new ≡ string_bytes text.old ++ flat_map (λ edge. codes ", " ++ decimal (step_number self.now edge)) (zip (y ∷ rest.now) rest.now)) }
+        ensures { OnOk result (string_bytes text.new ≡ string_bytes text.old ++ flat_map (λ edge. codes ", " ++ decimal (step_number self.now edge))
+            (zip (y ∷ rest.now) rest.now)) }
     {
         let mut previous = y;
         for z in rest {

@@ -58,7 +58,8 @@ fn push_numbers(
     u: u64,
     step: Option<&CertStep>,
 ) -> Result<(), AllocError>
-    ensures { OnOk result (numbers.new.items ≡ numbers.old.items ++ option_map_or (λ s. reason_numbers links.now u s.reason) (option_copied step.entry) (u ∷ [])) }
+    ensures { OnOk result (numbers.new.items ≡ numbers.old.items ++ option_map_or (λ s. reason_numbers links.now u s.reason) (option_copied step.entry)
+        (u ∷ [])) }
 {
     match step {
         Some(step) => match &step.reason {

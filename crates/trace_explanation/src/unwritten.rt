@@ -25,7 +25,8 @@ pub(crate) fn push_unwritten(
     named: &NamedTrace<'_>,
     n: usize,
 ) -> Result<(), AllocError>
-    ensures { OnOk result (string_bytes text.new ≡ string_bytes text.old ++ option_map_or (unwritten_by named.now.names.now named.now.trace.now n) (event_at named.now.trace.now n) []) }
+    ensures { OnOk result (string_bytes text.new ≡ string_bytes text.old ++ option_map_or (unwritten_by named.now.names.now named.now.trace.now n)
+        (event_at named.now.trace.now n) []) }
 {
     match named.trace.event(n) {
         Some(event) => {
@@ -65,7 +66,8 @@ fn push_elsewhere(
     named: &NamedTrace<'_>,
     value: u64,
 ) -> Result<(), AllocError>
-    ensures { OnOk result (string_bytes text.new ≡ string_bytes text.old ++ option_map_or (elsewhere_text named.now.names.now named.now.trace.now value) (find (is_store_where named.now.trace.now (λ s. s.value == value)) (event_numbers named.now.trace.now)) []) }
+    ensures { OnOk result (string_bytes text.new ≡ string_bytes text.old ++ option_map_or (elsewhere_text named.now.names.now named.now.trace.now value)
+        (find (is_store_where named.now.trace.now (λ s. s.value == value)) (event_numbers named.now.trace.now)) []) }
 {
     match store_of(named.trace, value) {
         Some(m) => push_elsewhere_at(alloc, text, named, value, m),
@@ -145,7 +147,8 @@ fn push_stores(
     n: usize,
     a: u16,
 ) -> Result<(), AllocError>
-    ensures { OnOk result (string_bytes text.new ≡ string_bytes text.old ++ stores_text named.now.names.now named.now.trace.now (address_named named.now.names.now n) (store_numbers named.now.trace.now a)) }
+    ensures { OnOk result (string_bytes text.new ≡ string_bytes text.old ++ stores_text named.now.names.now named.now.trace.now
+        (address_named named.now.names.now n) (store_numbers named.now.trace.now a)) }
 {
     let stores = list_stores(alloc, named.trace, a)?;
     push_store_lines(alloc, text, named, named.names.address(n), &stores)

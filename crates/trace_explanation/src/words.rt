@@ -86,7 +86,8 @@ pub(crate) fn long_words(
     numbered: &NumberedSteps<'_>,
     step: &CertStep,
 ) -> Result<String, AllocError>
-    ensures { IfOk result (λ text. string_bytes text ≡ reason_long named.now.names.now named.now.trace.now numbered.now step.now.from step.now.to step.now.reason) }
+    ensures { IfOk result (λ text. string_bytes text ≡ reason_long named.now.names.now named.now.trace.now numbered.now step.now.from step.now.to
+        step.now.reason) }
 {
     let by = path_words(alloc, numbered, &step.reason)?;
     reason_words(alloc, named, step, &by)

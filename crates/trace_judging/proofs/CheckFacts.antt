@@ -17,7 +17,7 @@ use Rattle.cert_check.proofs.RefusalFacts.{not_refused, one_refusal}
 use Rattle.trace_reports.specs.declared.verdicts.Verdict.{Verdict}
 use Rattle.trace_reports.specs.declared.verdicts.Verdict.TheVariants.{Violation, Refused}
 use Rattle.trace_reports.specs.RefusalLines.{refusal_text}
-use Rattle.trace_reports.specs.Reports.{refusal_shown}
+use Rattle.trace_reports.specs.Reports.{rendered_refusal}
 use Rattle.trace_reports.specs.Verdicts.{is_violation}
 use Rattle.trace_judging.specs.Checks.{certificate_holds_text, fails_text, certificate_refusal_text, SpellsHolding, SpellHolding, IsFailureReport, IsUnreadReport, IsCertReport, IsCheckReport}
 use Rattle.trace_judging.specs.Limits.{certificate_byte_limit}
@@ -104,7 +104,7 @@ pub one_check_report : (trace cert a b : List ℕ) (v w : Verdict) → IsCheckRe
 one_check_report trace cert a b v w (inl p) (inl q) = one_cert_report q.0 cert a b v w (subst (λ t. IsCertReport t cert a v) (trace_laws.one_value trace p.0 q.0 p.1 q.1) p.2.1) q.2.1
 one_check_report trace cert a b v w (inl p) (inr q) = absurd (trace_laws.not_both trace p.0 q.0 q.1 p.1 q.2)
 one_check_report trace cert a b v w (inr p) (inl q) = absurd (trace_laws.not_both trace q.0 p.0 p.1 q.1 p.2)
-one_check_report trace cert a b v w (inr p) (inr q) = one_of_refusal Refused refusal_shown trace a b v w p q
+one_check_report trace cert a b v w (inr p) (inr q) = one_of_refusal Refused rendered_refusal trace a b v w p q
 
 -- ---- some report
 

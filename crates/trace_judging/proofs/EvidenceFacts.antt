@@ -4,15 +4,13 @@ use Rattle.std.proofs.lemmas.Bool.{cases_lt}
 use Rattle.std.proofs.lemmas.List.{take_all, length-take-le}
 use Rattle.std.specs.Prelude.{Option}
 use Rattle.tso_ops.specs.Values.{TraceValue}
-use Rattle.tso_text.specs.declared.faults.Why.{Why}
 use Rattle.tso_text.specs.Texts.{SpellsTrace}
 use Rattle.trace_streams.specs.Limits.{trace_read_limit}
-use Rattle.tso_text.specs.Refusals.{IsRefusedTrace, IsTraceRefusal}
+use Rattle.tso_text.specs.Refusals.{IsRefusedTrace}
 use Rattle.tso_text.proofs.TextLaws.{trace_laws}
-use Rattle.trace_reports.specs.Reports.{refusal_shown}
+use Rattle.trace_reports.specs.Reports.{rendered_refusal}
 use Rattle.trace_judging.specs.Evidence.{IsReportOfEvidence, IsReportOfReaders, IsReportOfTexts, ReportsEvidence}
 use Rattle.trace_judging.specs.Limits.{certificate_byte_limit, certificate_read_limit}
-use Rattle.text_streams.specs.Readings.{ReadsAs}
 use Rattle.trace_reports.proofs.RenderingFacts.{IsRenderedRefusal}
 use Rattle.trace_streams.proofs.InputFacts.{refusal_of_prefix, spells_of_prefix}
 use Rattle.text_streams.proofs.ReadingFacts.{reads_any, reads_as, reads_more}
@@ -40,7 +38,7 @@ report_of_spelled is_report refusing trace t spells remaining bytes seen text v 
     (reads_as Is certificate_read_limit (λ all is. subst Is (take_short all is.0) is) remaining bytes seen prefix same (subst (λ b. length b ≤ certificate_byte_limit) (sym same) few, report))
 
 -- that of a refusal, whatever the evidence is
-pub report_of_refused : {V : Type 0} (is_report : ReportsEvidence V) (refusing : V) (trace text : List ℕ) (v : V) → IsRenderedRefusal refusing refusal_shown trace text v → (remaining : Option (List ℕ)) →
+pub report_of_refused : {V : Type 0} (is_report : ReportsEvidence V) (refusing : V) (trace text : List ℕ) (v : V) → IsRenderedRefusal refusing rendered_refusal trace text v → (remaining : Option (List ℕ)) →
     IsReportOfEvidence is_report refusing remaining trace text v
 report_of_refused is_report refusing trace text v refused remaining = reads_any (λ input. inr refused) remaining
 

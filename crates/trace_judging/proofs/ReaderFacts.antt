@@ -14,13 +14,11 @@ use Rattle.tso_model.specs.Axioms.{IsConsistent}
 use Rattle.trace_reports.specs.declared.verdicts.Verdict.{Verdict}
 use Rattle.trace_reports.specs.declared.verdicts.Verdict.TheVariants.{Violation, Refused}
 use Rattle.trace_reports.specs.Renderings.{IsTextOf, IsTextOfBytes, IsTextOfTrace, RendersRefusal}
-use Rattle.trace_reports.specs.Reports.{refusal_shown, reported, IsReport, ShowsViolationOf, SpellsViolation}
+use Rattle.trace_reports.specs.Reports.{rendered_refusal, reported, IsReport, ShowsViolationOf, SpellsViolation}
 use Rattle.trace_reports.proofs.RenderingFacts.{no_order, shows_violation, violation_exactly}
 use Rattle.text_streams.specs.declared.faults.Fault.{Fault}
-use Rattle.text_streams.specs.declared.faults.Fault.TheVariants.{Write}
-use Rattle.text_streams.specs.Streams.{AppendsPrefix}
 use Rattle.trace_judging.specs.WrittenReports.{IsReportOfReader}
-use Rattle.text_streams.specs.WrittenTexts.{LeavesAtFault, WritesWhole}
+use Rattle.text_streams.specs.WrittenTexts.{WritesWhole}
 use Rattle.text_streams.proofs.ReadingFacts.{reads_as}
 use Rattle.trace_streams.proofs.InputFacts.{refusal_of_prefix, refused_whole, spells_of_prefix}
 
@@ -76,20 +74,20 @@ module _ {V : Type 0} (is_text : TraceValue → List ℕ → V → Type 0) (refu
 
 -- The report of the bytes up to one past the limit is that of all.
 pub report_of_prefix : (input text : List ℕ) (v : Verdict) → IsReport (take trace_read_limit input) text v → IsReport input text v
-report_of_prefix = text_of_prefix (IsTextOfTrace reported) Refused refusal_shown (λ a b why. refl)
+report_of_prefix = text_of_prefix (IsTextOfTrace reported) Refused rendered_refusal (λ a b why. refl)
 
 -- where a report was written, its verdict is Violation exactly where a violation is spelled
 pub violation_written : (remaining old new : Option (List ℕ)) (outcome : Result Verdict Fault) → IfOk outcome (WritesWhole (IsReportOfReader remaining) old new) →
     IfOk outcome (λ verdict. IfSome remaining (λ all. (verdict ≡ Violation) ↔ SpellsViolation all))
 violation_written None old new (Ok v) writes = tt
-violation_written (Some all) old new (Ok v) writes = violation_exactly reported refusal_shown all writes.0 v writes.1.of_all
+violation_written (Some all) old new (Ok v) writes = violation_exactly reported rendered_refusal all writes.0 v writes.1.of_all
 violation_written remaining old new (Err fault) writes = tt
 
 -- then no order was left
 pub no_order_written : (remaining old new : Option (List ℕ)) (outcome : Result Verdict Fault) → IfOk outcome (WritesWhole (IsReportOfReader remaining) old new) →
     IfOk outcome (λ verdict. verdict ≡ Violation → IfSome remaining (λ all. (t : TraceValue) → SpellsTrace all t → IsConsistent t → ⊥))
 no_order_written None old new (Ok v) writes = λ e. tt
-no_order_written (Some all) old new (Ok v) writes = no_order reported refusal_shown all writes.0 v writes.1.of_all
+no_order_written (Some all) old new (Ok v) writes = no_order reported rendered_refusal all writes.0 v writes.1.of_all
 no_order_written remaining old new (Err fault) writes = tt
 
 -- where a report with the verdict Violation was written, it shows the violation

@@ -1,5 +1,5 @@
 //! The texts of reports on certificates.
-ghost use Rattle.std.specs.Prelude.{◌≡◌, ◌≢◌, IfOk, string_bytes};
+ghost use Rattle.std.specs.Prelude.{◌≡◌, IfOk, string_bytes};
 ghost use Rattle.tso_cert.specs.declared.faults.CertificateRefusal.{CertificateRefusal};
 ghost use Rattle.tso_model.specs.Axioms.{IsConsistent};
 ghost use Rattle.trace_reports.specs.declared.verdicts.Verdict.{Verdict};

@@ -35,14 +35,19 @@ pub fn check_texts<T: Read, C: Read, W: Write>(
     cert_reader: &mut C,
     writer: &mut W,
 ) -> Result<Verdict, Fault>
-    ensures report { IfOk result (WritesWhole (IsCheckReportOfReaders (T.remaining trace_reader.old) (C.remaining cert_reader.old)) (W.contents writer.old) (W.contents writer.new)) }
-    ensures violation { IfOk result (λ verdict. IfSome (T.remaining trace_reader.old) (λ trace. IfSome (C.remaining cert_reader.old) (λ cert. (verdict ≡ Verdict.Violation) ↔ SpellHolding trace cert))) }
+    ensures report { IfOk result (WritesWhole (IsCheckReportOfReaders (T.remaining trace_reader.old) (C.remaining cert_reader.old)) (W.contents writer.old)
+        (W.contents writer.new)) }
+    ensures violation { IfOk result (λ verdict. IfSome (T.remaining trace_reader.old)
+        (λ trace. IfSome (C.remaining cert_reader.old) (λ cert. (verdict ≡ Verdict.Violation) ↔ SpellHolding trace cert))) }
     ensures otherwise { IfOk result (λ verdict. (verdict ≡ Verdict.Violation) ⊎ (verdict ≡ Verdict.Refused)) }
-    ensures no_order { IfOk result (λ verdict. verdict ≡ Verdict.Violation → IfSome (T.remaining trace_reader.old) (λ trace. (t : TraceValue) → SpellsTrace trace t → IsConsistent t → ⊥)) }
+    ensures no_order { IfOk result (λ verdict. verdict ≡ Verdict.Violation →
+        IfSome (T.remaining trace_reader.old) (λ trace. (t : TraceValue) → SpellsTrace trace t → IsConsistent t → ⊥)) }
     ensures taken { IfOk result (λ _. LosesPrefix trace_read_limit (T.remaining trace_reader.old) (T.remaining trace_reader.new)) }
-    ensures taken_after { IfOk result (λ _. cert_reader.new ≡ cert_reader.old ⊎ LosesPrefix certificate_read_limit (C.remaining cert_reader.old) (C.remaining cert_reader.new)) }
+    ensures taken_after { IfOk result (λ _. cert_reader.new ≡ cert_reader.old ⊎
+        LosesPrefix certificate_read_limit (C.remaining cert_reader.old) (C.remaining cert_reader.new)) }
     ensures unread { IfSome (T.remaining trace_reader.old) (λ trace. IsRefusedTrace trace → cert_reader.new ≡ cert_reader.old) }
-    ensures fault { IfErr result (LeavesAtFault (IsCheckReportOfReaders (T.remaining trace_reader.old) (C.remaining cert_reader.old)) (W.contents writer.old) (W.contents writer.new)) }
+    ensures fault { IfErr result (LeavesAtFault (IsCheckReportOfReaders (T.remaining trace_reader.old) (C.remaining cert_reader.old)) (W.contents writer.old)
+        (W.contents writer.new)) }
     ensures no_thread { IfErr result (λ fault. fault ≢ Fault.NoThread) }
 {
     check_evidence(alloc, &Certificates, trace_reader, cert_reader, writer)

@@ -63,12 +63,15 @@ pub fn check_evidence<T: Read, E: Read, W: Write, K: EvidenceKind>(
     evidence: &mut E,
     writer: &mut W,
 ) -> Result<K::Verdict, Fault>
-    ensures report { IfOk result (WritesWhole (IsReportOfReaders K.is_report K.refusing (T.remaining traces.old) (E.remaining evidence.old)) (W.contents writer.old) (W.contents writer.new)) }
+    ensures report { IfOk result (WritesWhole (IsReportOfReaders K.is_report K.refusing (T.remaining traces.old) (E.remaining evidence.old))
+        (W.contents writer.old) (W.contents writer.new)) }
     ensures says { IfOk result (λ verdict. IfSome (T.remaining traces.old) (λ all. (t : TraceValue) → SpellsTrace all t → K.says t verdict)) }
     ensures taken { IfOk result (λ _. LosesPrefix trace_read_limit (T.remaining traces.old) (T.remaining traces.new)) }
-    ensures taken_after { IfOk result (λ _. evidence.new ≡ evidence.old ⊎ LosesPrefix certificate_read_limit (E.remaining evidence.old) (E.remaining evidence.new)) }
+    ensures taken_after { IfOk result (λ _. evidence.new ≡ evidence.old ⊎
+        LosesPrefix certificate_read_limit (E.remaining evidence.old) (E.remaining evidence.new)) }
     ensures unread { IfSome (T.remaining traces.old) (λ trace. IsRefusedTrace trace → evidence.new ≡ evidence.old) }
-    ensures fault { IfErr result (LeavesAtFault (IsReportOfReaders K.is_report K.refusing (T.remaining traces.old) (E.remaining evidence.old)) (W.contents writer.old) (W.contents writer.new)) }
+    ensures fault { IfErr result (LeavesAtFault (IsReportOfReaders K.is_report K.refusing (T.remaining traces.old) (E.remaining evidence.old))
+        (W.contents writer.old) (W.contents writer.new)) }
     ensures no_thread { IfErr result (λ fault. fault ≢ Fault.NoThread) }
 {
     let report = report_texts(alloc, kind, traces, evidence)?;
@@ -83,10 +86,12 @@ fn report_texts<T: Read, E: Read, K: EvidenceKind>(
     traces: &mut T,
     evidence: &mut E,
 ) -> Result<Report<K::Verdict>, Fault>
-    ensures report { IfOk result (λ report. IsReportOfReaders K.is_report K.refusing (T.remaining traces.old) (E.remaining evidence.old) (string_bytes report.text) report.verdict) }
+    ensures report { IfOk result (λ report. IsReportOfReaders K.is_report K.refusing (T.remaining traces.old) (E.remaining evidence.old)
+        (string_bytes report.text) report.verdict) }
     ensures says { IfOk result (λ report. IfSome (T.remaining traces.old) (λ all. (t : TraceValue) → SpellsTrace all t → K.says t report.verdict)) }
     ensures taken { IfOk result (λ _. LosesPrefix trace_read_limit (T.remaining traces.old) (T.remaining traces.new)) }
-    ensures taken_after { IfOk result (λ _. evidence.new ≡ evidence.old ⊎ LosesPrefix certificate_read_limit (E.remaining evidence.old) (E.remaining evidence.new)) }
+    ensures taken_after { IfOk result (λ _. evidence.new ≡ evidence.old ⊎
+        LosesPrefix certificate_read_limit (E.remaining evidence.old) (E.remaining evidence.new)) }
     ensures unread { IfSome (T.remaining traces.old) (λ trace. IsRefusedTrace trace → evidence.new ≡ evidence.old) }
     ensures fault { IfErr result (λ fault. (fault ≡ Fault.OutOfMemory) ⊎ (fault ≡ Fault.Read)) }
 {
@@ -105,7 +110,8 @@ pub fn report_text<E: Read, K: EvidenceKind>(
     input: &[u8],
     evidence: &mut E,
 ) -> Result<Report<K::Verdict>, Fault>
-    ensures report { IfOk result (λ report. IsReportOfEvidence K.is_report K.refusing (E.remaining evidence.old) input.now (string_bytes report.text) report.verdict) }
+    ensures report { IfOk result (λ report. IsReportOfEvidence K.is_report K.refusing (E.remaining evidence.old) input.now
+        (string_bytes report.text) report.verdict) }
     ensures says { IfOk result (λ report. (t : TraceValue) → SpellsTrace input.now t → K.says t report.verdict) }
     ensures taken { IfOk result (λ _. evidence.new ≡ evidence.old ⊎ LosesPrefix certificate_read_limit (E.remaining evidence.old) (E.remaining evidence.new)) }
     ensures unread { IsRefusedTrace input.now → evidence.new ≡ evidence.old }

@@ -39,8 +39,11 @@ pub fn judge<H: Threads + Wait + Sync, R: Read, W: Write>(
     requires most { workers ≤ worker_limit }
     ensures report { IfOk result (WritesWhole (IsReportOfReader (R.remaining reader.old)) (W.contents writer.old) (W.contents writer.new)) }
     ensures violation { IfOk result (λ verdict. IfSome (R.remaining reader.old) (λ all. (verdict ≡ Verdict.Violation) ↔ SpellsViolation all)) }
-    ensures no_order { IfOk result (λ verdict. verdict ≡ Verdict.Violation → IfSome (R.remaining reader.old) (λ all. (t : TraceValue) → SpellsTrace all t → IsConsistent t → ⊥)) }
-    ensures holds { IfOk result (λ verdict. verdict ≡ Verdict.Violation → IfSome (R.remaining reader.old) (λ all. (text : List ℕ) × ((t : TraceValue) × SpellsTrace all t × ShowsViolationOf t text) × Appends (W.contents writer.old) (W.contents writer.new) text)) }
+    ensures no_order { IfOk result (λ verdict. verdict ≡ Verdict.Violation →
+        IfSome (R.remaining reader.old) (λ all. (t : TraceValue) → SpellsTrace all t → IsConsistent t → ⊥)) }
+    ensures holds { IfOk result (λ verdict. verdict ≡ Verdict.Violation →
+        IfSome (R.remaining reader.old) (λ all. (text : List ℕ) × ((t : TraceValue) × SpellsTrace all t × ShowsViolationOf t text) ×
+        Appends (W.contents writer.old) (W.contents writer.new) text)) }
     ensures taken { IfOk result (λ _. LosesPrefix trace_read_limit (R.remaining reader.old) (R.remaining reader.new)) }
     ensures fault { IfErr result (LeavesAtFault (IsReportOfReader (R.remaining reader.old)) (W.contents writer.old) (W.contents writer.new)) }
 {

@@ -26,18 +26,24 @@ pub fn reports()
 /// Each input has one text of any rendering, whatever is said of traces and of refusals, with the verdict of its report, which is
 /// Violation exactly where the input spells a trace that is a violation.
 pub fn texts()
-    ensures exists { (said : TraceValue → Finding → List ℕ) (refused : RendersRefusal) (input : List ℕ) → (text : List ℕ) × (verdict : Verdict) × IsTextOfInput said refused input text verdict }
-    ensures one { (said : TraceValue → Finding → List ℕ) (refused : RendersRefusal) (input text other : List ℕ) (v w : Verdict) → IsTextOfInput said refused input text v → IsTextOfInput said refused input other w → (text ≡ other) × (v ≡ w) }
-    ensures verdict { (said : TraceValue → Finding → List ℕ) (refused : RendersRefusal) (input text report : List ℕ) (v w : Verdict) → IsTextOfInput said refused input text v → IsReport input report w → v ≡ w }
-    ensures violation { (said : TraceValue → Finding → List ℕ) (refused : RendersRefusal) (input text : List ℕ) (v : Verdict) → IsTextOfInput said refused input text v → (v ≡ Verdict.Violation) ↔ SpellsViolation input }
+    ensures exists { (said : TraceValue → Finding → List ℕ) (refused : RendersRefusal) (input : List ℕ) →
+        (text : List ℕ) × (verdict : Verdict) × IsTextOfInput said refused input text verdict }
+    ensures one { (said : TraceValue → Finding → List ℕ) (refused : RendersRefusal) (input text other : List ℕ) (v w : Verdict) →
+        IsTextOfInput said refused input text v → IsTextOfInput said refused input other w → (text ≡ other) × (v ≡ w) }
+    ensures verdict { (said : TraceValue → Finding → List ℕ) (refused : RendersRefusal) (input text report : List ℕ) (v w : Verdict) →
+        IsTextOfInput said refused input text v → IsReport input report w → v ≡ w }
+    ensures violation { (said : TraceValue → Finding → List ℕ) (refused : RendersRefusal) (input text : List ℕ) (v : Verdict) →
+        IsTextOfInput said refused input text v → (v ≡ Verdict.Violation) ↔ SpellsViolation input }
 {}
 
 /// Two texts have one report at most, and one where the second has 67,108,864 bytes at most. It says that the
 /// certificate holds exactly where the first spells a trace and the second a certificate that holds for it, and it is
 /// Refused otherwise.
 pub fn checks()
-    ensures exists { (trace cert : List ℕ) → length cert ≤ certificate_byte_limit → (text : List ℕ) × (verdict : Verdict) × IsCheckReport trace cert text verdict }
-    ensures one { (trace cert text other : List ℕ) (v w : Verdict) → IsCheckReport trace cert text v → IsCheckReport trace cert other w → (text ≡ other) × (v ≡ w) }
+    ensures exists { (trace cert : List ℕ) → length cert ≤ certificate_byte_limit → (text : List ℕ) × (verdict : Verdict) ×
+        IsCheckReport trace cert text verdict }
+    ensures one { (trace cert text other : List ℕ) (v w : Verdict) → IsCheckReport trace cert text v → IsCheckReport trace cert other w →
+        (text ≡ other) × (v ≡ w) }
     ensures violation { (trace cert text : List ℕ) (v : Verdict) → IsCheckReport trace cert text v → (v ≡ Verdict.Violation) ↔ SpellHolding trace cert }
     ensures otherwise { (trace cert text : List ℕ) (v : Verdict) → IsCheckReport trace cert text v → (v ≡ Verdict.Violation) ⊎ (v ≡ Verdict.Refused) }
 {}

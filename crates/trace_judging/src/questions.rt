@@ -1,5 +1,5 @@
 //! Questions about one trace, and the one way from a text to an answer: read, parse, find, render, write.
-ghost use Rattle.std.specs.Prelude.{◌≡◌, ◌⊎◌, ◌≤◌, string_bytes, IfOk, IfErr, IfSome};
+ghost use Rattle.std.specs.Prelude.{◌≡◌, ◌⊎◌, string_bytes, IfOk, IfErr, IfSome};
 ghost use Rattle.tso_ops.specs.Values.{TraceValue};
 ghost use Rattle.tso_text.specs.Texts.{SpellsTrace};
 ghost use Rattle.trace_streams.specs.Limits.{trace_read_limit};
@@ -83,10 +83,12 @@ pub fn answer_reader<
     rendering: &P,
 ) -> Result<Q::Verdict, Fault>
     requires { Q.is_limited question.now }
-    ensures rendered { let is_text = IsTextOfBytes (IsRendered (Q.is_found question.now) Q.answers (P.rendered rendering.now)) Q.refusing (P.refused rendering.now) (R.remaining reader.old) in IfOk result (WritesWhole is_text (W.contents writer.old) (W.contents writer.new)) }
+    ensures rendered { let is_text = IsTextOfBytes (IsRendered (Q.is_found question.now) Q.answers (P.rendered rendering.now)) Q.refusing
+        (P.refused rendering.now) (R.remaining reader.old) in IfOk result (WritesWhole is_text (W.contents writer.old) (W.contents writer.new)) }
     ensures says { IfOk result (λ verdict. IfSome (R.remaining reader.old) (λ all. (t : TraceValue) → SpellsTrace all t → Q.says t verdict)) }
     ensures taken { IfOk result (λ _. LosesPrefix trace_read_limit (R.remaining reader.old) (R.remaining reader.new)) }
-    ensures fault { let is_text = IsTextOfBytes (IsRendered (Q.is_found question.now) Q.answers (P.rendered rendering.now)) Q.refusing (P.refused rendering.now) (R.remaining reader.old) in IfErr result (LeavesAtFault is_text (W.contents writer.old) (W.contents writer.new)) }
+    ensures fault { let is_text = IsTextOfBytes (IsRendered (Q.is_found question.now) Q.answers (P.rendered rendering.now)) Q.refusing (P.refused rendering.now)
+        (R.remaining reader.old) in IfErr result (LeavesAtFault is_text (W.contents writer.old) (W.contents writer.new)) }
 {
     let input = read_all(alloc, reader, MAX_TEXT_BYTES)?;
     let report = answer_text(rt, alloc, &input, question, rendering)?;
@@ -105,7 +107,8 @@ pub fn answer_text<H: Threads + Wait, Q: Question, P: Rendering<Trace, Q::Found>
     rendering: &P,
 ) -> Result<Report<Q::Verdict>, Fault>
     requires { Q.is_limited question.now }
-    ensures rendered { IfOk result (λ report. IsTextOf (IsRendered (Q.is_found question.now) Q.answers (P.rendered rendering.now)) Q.refusing (P.refused rendering.now) input.now (string_bytes report.text) report.verdict) }
+    ensures rendered { IfOk result (λ report. IsTextOf (IsRendered (Q.is_found question.now) Q.answers (P.rendered rendering.now)) Q.refusing
+        (P.refused rendering.now) input.now (string_bytes report.text) report.verdict) }
     ensures says { IfOk result (λ report. (t : TraceValue) → SpellsTrace input.now t → Q.says t report.verdict) }
     ensures fault { IfErr result (λ fault. (fault ≡ Fault.OutOfMemory) ⊎ (fault ≡ Fault.NoThread)) }
 {
@@ -129,7 +132,8 @@ pub fn answer_trace<H: Threads + Wait, Q: Question, P: Rendering<Trace, Q::Found
     rendering: &P,
 ) -> Result<Report<Q::Verdict>, Fault>
     requires { Q.is_limited question.now }
-    ensures rendered { IfOk result (λ report. IsRendered (Q.is_found question.now) Q.answers (P.rendered rendering.now) trace.now (string_bytes report.text) report.verdict) }
+    ensures rendered { IfOk result (λ report. IsRendered (Q.is_found question.now) Q.answers (P.rendered rendering.now) trace.now
+        (string_bytes report.text) report.verdict) }
     ensures says { IfOk result (λ report. Q.says trace.now report.verdict) }
     ensures fault { IfErr result (λ fault. (fault ≡ Fault.OutOfMemory) ⊎ (fault ≡ Fault.NoThread)) }
 {

@@ -1,5 +1,5 @@
 //! The small lines in boxes: which edges leave them, and by which steps.
-ghost use Rattle.std.specs.Prelude.{◌≡◌, ◌≤◌, length, string_bytes, IfOk, OnOk};
+ghost use Rattle.std.specs.Prelude.{◌≡◌, ◌≤◌, length, string_bytes, IfOk};
 ghost use Rattle.std.specs.List.{filter};
 ghost use Rattle.tso_cert.specs.Printed.{event_text};
 ghost use Rattle.trace_pictures.specs.Arrows.{arrow_words, arrows_at, leaves, mark_colour, name_words, step_words};

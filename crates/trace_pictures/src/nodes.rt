@@ -80,7 +80,8 @@ pub(crate) fn push_processors(
     width: u128,
 ) -> Result<(), AllocError>
     requires { width < 2 ^ 70 }
-    ensures { OnOk result (string_bytes text.new ≡ string_bytes text.old ++ flat_map (processor_nodes_text placed.now drawn.now looks.now width) (range_with_len 0 (processor_count placed.now))) }
+    ensures { OnOk result (string_bytes text.new ≡ string_bytes text.old ++ flat_map (processor_nodes_text placed.now drawn.now looks.now width)
+        (range_with_len 0 (processor_count placed.now))) }
 {
     let mut x = 0;
     for proc in 0..placed.trace().processors() {
@@ -101,7 +102,8 @@ fn push_processor(
     column: Column,
 ) -> Result<(), AllocError>
     requires { column.proc < processor_count placed.now }
-    ensures { (width : ℕ) → column.x ≡ width * column.proc → OnOk result (string_bytes text.new ≡ string_bytes text.old ++ processor_nodes_text placed.now drawn.now looks.now width column.proc) }
+    ensures { (width : ℕ) → column.x ≡ width * column.proc →
+        OnOk result (string_bytes text.new ≡ string_bytes text.old ++ processor_nodes_text placed.now drawn.now looks.now width column.proc) }
 {
     let rows = rows_of(alloc, placed, drawn, column.proc)?;
     let proc = column.proc;
@@ -122,7 +124,8 @@ fn push_rows(
     column: Column,
     rows: &[Row],
 ) -> Result<(), AllocError>
-    ensures { OnOk result (string_bytes text.new ≡ string_bytes text.old ++ rows_text placed.now looks.now column.proc column.x (70 + 26 * (column.proc % 2)) (codes "p" ++ decimal column.proc) rows.now) }
+    ensures { OnOk result (string_bytes text.new ≡ string_bytes text.old ++ rows_text placed.now looks.now column.proc column.x (70 + 26 * (column.proc % 2))
+        (codes "p" ++ decimal column.proc) rows.now) }
 {
     let mut y = first_height(column.proc);
     let mut above = head_name(alloc, column.proc)?;

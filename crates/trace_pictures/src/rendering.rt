@@ -1,6 +1,6 @@
 //! Pictures as a rendering of what is found of a trace.
 ghost use Rattle.std.specs.Prelude.{refl};
-ghost use Rattle.trace_reports.specs.Reports.{refusal_shown};
+ghost use Rattle.trace_reports.specs.Reports.{rendered_refusal};
 ghost use Rattle.trace_pictures.specs.Pictured.{field_pictured, pictured};
 
 use crate::pictures::{draw, draw_field};
@@ -16,7 +16,7 @@ pub struct AsPicture;
 impl Rendering<Trace, Finding> for AsPicture {
     ghost rendered = { λ form. pictured };
 
-    ghost refused = { λ form. refusal_shown };
+    ghost refused = { λ form. rendered_refusal };
 
     fn text_of_found(
         &self,
@@ -48,7 +48,7 @@ pub struct AsFieldPicture;
 impl Rendering<Trace, Finding> for AsFieldPicture {
     ghost rendered = { λ form. field_pictured };
 
-    ghost refused = { λ form. refusal_shown };
+    ghost refused = { λ form. rendered_refusal };
 
     fn text_of_found(
         &self,

@@ -102,7 +102,8 @@ fn push_barrier(
 
 /// Whether the operation is a barrier, and none of these is one of its word.
 fn is_new_barrier(barriers: Barriers, outcome: Outcome) -> bool
-    ensures { (others : List Outcome) → barriers.membar ≡ has_word Outcome.Mb others → barriers.stbar ≡ has_word Outcome.Sb others → result ≡ is_new_barrier others outcome }
+    ensures { (others : List Outcome) → barriers.membar ≡ has_word Outcome.Mb others → barriers.stbar ≡ has_word Outcome.Sb others →
+        result ≡ is_new_barrier others outcome }
 {
     match outcome {
         Outcome::Mb => !barriers.membar,

@@ -71,7 +71,8 @@ fn list_cycle_first(
     steps: &[CertStep],
     cycle: &[u64],
 ) -> Result<Vec<usize>, AllocError>
-    ensures { IfOk result (λ numbers. numbers.items ≡ cycle.now ++ path_numbers steps.now (links_of cycle.now) ++ flat_map (step_numbers trace.now) (reverse steps.now)) }
+    ensures { IfOk result (λ numbers. numbers.items ≡ cycle.now ++ path_numbers steps.now (links_of cycle.now) ++
+        flat_map (step_numbers trace.now) (reverse steps.now)) }
 {
     let numbered = NumberedSteps::new(alloc, steps)?;
     let links = list_links(alloc, cycle)?;

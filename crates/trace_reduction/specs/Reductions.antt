@@ -4,14 +4,13 @@ use Rattle.tso_ops.specs.Values.{TraceValue}
 use Rattle.tso_ops.specs.Limits.{IsTrace}
 use Rattle.tso_ops.specs.Events.{IsUnwritten}
 use Rattle.tso_text.specs.Printed.{trace_text}
-use Rattle.tso_text.specs.Texts.{SpellsTrace}
 use Rattle.log_selections.specs.Selections.{IsSelection}
 use Rattle.log_selections.specs.Unwritten.{lone_load}
 use Rattle.trace_reports.specs.declared.verdicts.Verdict.{Verdict}
 use Rattle.trace_reports.specs.declared.verdicts.Verdict.TheVariants.{NoViolation, Violation, Refused}
 use Rattle.text_streams.specs.Readings.{ReadsAs}
 use Rattle.trace_reports.specs.Renderings.{IsTextOf}
-use Rattle.trace_reports.specs.Reports.{refusal_shown}
+use Rattle.trace_reports.specs.Reports.{rendered_refusal}
 use Rattle.trace_reports.specs.Verdicts.{verdict_line}
 use Rattle.trace_reports.specs.Violations.{IsViolation}
 
@@ -40,7 +39,7 @@ IsReducedText t text Refused = ⊥
 
 -- The text is printed of the trace that the input spells, or refuses the input.
 abbrev pub IsReductionOf : List ℕ → List ℕ → Verdict → Type 0
-IsReductionOf input text verdict = IsTextOf IsReducedText Refused refusal_shown input text verdict
+IsReductionOf input text verdict = IsTextOf IsReducedText Refused rendered_refusal input text verdict
 
 -- the same of the bytes of a reader
 abbrev pub IsReductionOfReader : Option (List ℕ) → List ℕ → Verdict → Type 0

@@ -45,7 +45,8 @@ fn keeps_event(trace: &Trace, small: &Trace, origins: &[usize], n: usize) -> boo
 
 /// Whether event `n`, if it is the load of a swap, is that of a swap of the whole trace.
 fn keeps_swap(trace: &Trace, small: &Trace, origins: &[usize], n: usize) -> bool
-    ensures { result ≡ true → IsSwapLoad small.now n → IsSwapLoad trace.now (origin_in origins.now n) × (origin_in origins.now (suc n) ≡ suc (origin_in origins.now n)) }
+    ensures { result ≡ true → IsSwapLoad small.now n → IsSwapLoad trace.now (origin_in origins.now n) ×
+        (origin_in origins.now (suc n) ≡ suc (origin_in origins.now n)) }
 {
     match (small.swap_store(n), trace.swap_store(origin_of(origins, n))) {
         (None, _) => true,

@@ -81,8 +81,10 @@ fn keeps_addresses(trace: &Trace, small: &Trace, pair: Pair, origin: Pair) -> bo
 
 /// Whether the barriers between two events are between those of the whole trace.
 fn keeps_barriers(trace: &Trace, small: &Trace, pair: Pair, origin: Pair) -> bool
-    ensures barriers { result ≡ true → Earlier small.now pair.u pair.v → HasFewerBarriersBefore small.now pair.u pair.v → HasFewerBarriersBefore trace.now origin.u origin.v }
-    ensures stbars { result ≡ true → Earlier small.now pair.u pair.v → HasFewerStbarsBefore small.now pair.u pair.v → HasFewerStbarsBefore trace.now origin.u origin.v }
+    ensures barriers { result ≡ true → Earlier small.now pair.u pair.v → HasFewerBarriersBefore small.now pair.u pair.v →
+        HasFewerBarriersBefore trace.now origin.u origin.v }
+    ensures stbars { result ≡ true → Earlier small.now pair.u pair.v → HasFewerStbarsBefore small.now pair.u pair.v →
+        HasFewerStbarsBefore trace.now origin.u origin.v }
 {
     if !small.is_earlier(pair.u, pair.v) {
         return true;

@@ -48,7 +48,8 @@ pub fn reduce_trace<H: Threads + Wait, R: Read, W: Write, E: Write>(
 ) -> Result<Verdict, Fault>
     ensures reduction { IfOk result (WritesWhole (IsReductionOfReader (R.remaining reader.old)) (W.contents writer.old) (W.contents writer.new)) }
     ensures violation { IfOk result (λ verdict. IfSome (R.remaining reader.old) (λ all. (verdict ≡ Verdict.Violation) ↔ SpellsViolation all)) }
-    ensures no_order { IfOk result (λ verdict. verdict ≡ Verdict.Violation → IfSome (R.remaining reader.old) (λ all. (t : TraceValue) → SpellsTrace all t → IsConsistent t → ⊥)) }
+    ensures no_order { IfOk result (λ verdict. verdict ≡ Verdict.Violation →
+        IfSome (R.remaining reader.old) (λ all. (t : TraceValue) → SpellsTrace all t → IsConsistent t → ⊥)) }
     ensures taken { IfOk result (λ _. LosesPrefix trace_read_limit (R.remaining reader.old) (R.remaining reader.new)) }
     ensures left { IfErr result (LeavesAtFault (IsReductionOfReader (R.remaining reader.old)) (W.contents writer.old) (W.contents writer.new)) }
     ensures told { (text : List ℕ) × AppendsPrefix (E.contents errors.old) (E.contents errors.new) text }
@@ -88,7 +89,8 @@ fn reduce_text<H: Threads + Wait>(rt: &H, alloc: Global, input: &[u8]) -> Result
 
 /// What is printed of a refused text. OutOfMemory where an allocation was refused, also where the fault says so.
 fn refuse(alloc: Global, fault: TextFault) -> Result<Reduction, OutOfMemory>
-    ensures { IfOk result (λ reduction. (fault.why ≢ Why.OutOfMemory) × (string_bytes reduction.text ≡ refusal_text fault.line fault.why) × (reduction.verdict ≡ Verdict.Refused)) }
+    ensures { IfOk result (λ reduction. (fault.why ≢ Why.OutOfMemory) × (string_bytes reduction.text ≡ refusal_text fault.line fault.why) ×
+        (reduction.verdict ≡ Verdict.Refused)) }
 {
     let refusal = render_refusal(alloc, fault)?;
     Ok(Reduction {

@@ -43,12 +43,12 @@ ShowsNoViolationOf t text = (rounds : ℕ) × (text ≡ reported t (record { rou
 -- ---- the report of an input
 
 -- the line of the refusal, whatever the input
-abbrev pub refusal_shown : RendersRefusal
-refusal_shown input line why = refusal_text line why
+abbrev pub rendered_refusal : RendersRefusal
+rendered_refusal input line why = refusal_text line why
 
 -- The text is the report of the input: that of the trace that it spells, or that of its refusal.
 abbrev pub IsReport : List ℕ → List ℕ → Verdict → Type 0
-IsReport input text verdict = IsTextOfInput reported refusal_shown input text verdict
+IsReport input text verdict = IsTextOfInput reported rendered_refusal input text verdict
 
 -- the input spells a trace that is a violation
 abbrev pub SpellsViolation : List ℕ → Type 0

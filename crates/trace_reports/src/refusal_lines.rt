@@ -14,7 +14,8 @@ use tso_text::TextFault;
 /// The report of a text that is no trace, or no program, schedule or log where it is to be one: the line of its refusal.
 /// OutOfMemory where an allocation was refused, also where the fault says that one of its reader was.
 pub fn render_refusal(alloc: Global, fault: TextFault) -> Result<Report<Verdict>, OutOfMemory>
-    ensures refused { IfOk result (λ report. fault.why ≢ Why.OutOfMemory × (string_bytes report.text ≡ refusal_text fault.line fault.why) × (report.verdict ≡ Verdict.Refused)) }
+    ensures refused { IfOk result (λ report. fault.why ≢ Why.OutOfMemory × (string_bytes report.text ≡ refusal_text fault.line fault.why) ×
+        (report.verdict ≡ Verdict.Refused)) }
     ensures memory { fault.why ≡ Why.OutOfMemory → IsErr result }
 {
     render_refused(alloc, b"", fault, &AsReport, Verdict::Refused)

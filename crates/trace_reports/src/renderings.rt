@@ -50,7 +50,8 @@ pub fn render_refused<S, F, V: Drop, P: Rendering<S, F>>(
     rendering: &P,
     refusing: V,
 ) -> Result<Report<V>, OutOfMemory>
-    ensures refused { IfOk result (λ report. fault.why ≢ Why.OutOfMemory × (string_bytes report.text ≡ P.refused rendering.now input.now fault.line fault.why) × (report.verdict ≡ refusing)) }
+    ensures refused { IfOk result (λ report. fault.why ≢ Why.OutOfMemory × (string_bytes report.text ≡ P.refused rendering.now input.now fault.line fault.why) ×
+        (report.verdict ≡ refusing)) }
     ensures memory { fault.why ≡ Why.OutOfMemory → IsErr result }
 {
     if fault.why == Why::OutOfMemory {

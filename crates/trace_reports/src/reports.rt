@@ -1,6 +1,6 @@
 //! The texts of reports on traces.
 ghost use Rattle.std.specs.Prelude.{◌≡◌, refl, string_bytes, IfOk};
-ghost use Rattle.trace_reports.specs.Reports.{head_text, refusal_shown, reported};
+ghost use Rattle.trace_reports.specs.Reports.{head_text, rendered_refusal, reported};
 
 use crate::findings::Finding;
 use crate::refusal_lines::refusal_line;
@@ -18,7 +18,7 @@ pub struct AsReport;
 impl Rendering<Trace, Finding> for AsReport {
     ghost rendered = { λ form. reported };
 
-    ghost refused = { λ form. refusal_shown };
+    ghost refused = { λ form. rendered_refusal };
 
     fn text_of_found(
         &self,

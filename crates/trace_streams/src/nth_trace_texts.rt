@@ -4,7 +4,6 @@ ghost use Rattle.std.specs.Io.KnownBytes.{Consumes};
 ghost use Rattle.trace_streams.specs.StreamSplitters.{IsAt, IsLastTraceText};
 ghost use Rattle.trace_streams.specs.Internal.Searches.{Finds};
 ghost use Rattle.trace_streams.specs.NthTraceTexts.{IsKeptOfNth};
-ghost use Rattle.trace_streams.specs.Limits.{trace_read_limit};
 ghost use Rattle.text_streams.specs.declared.faults.Fault.{Fault};
 ghost use Rattle.text_streams.specs.Readings.{ReadsAs};
 

@@ -66,7 +66,8 @@ impl TraceTextReader {
     /// Faults: OutOfMemory where an allocation was refused; Read where the reader failed, was interrupted 1,048,576 times in a
     /// row, or gave neither the trace text nor its end within 2^64 - 1 calls. After a fault it is not to be called again.
     pub fn next<R: Read>(&mut self, reader: &mut R) -> Result<Option<Vec<u8>>, Fault>
-        ensures given { IfOk result (λ piece. (stream : Option (List ℕ)) (given : List (List ℕ)) → HasGiven self.old stream (R.remaining reader.old) given → GivesNext self.new stream (R.remaining reader.new) given piece) }
+        ensures given { IfOk result (λ piece. (stream : Option (List ℕ)) (given : List (List ℕ)) → HasGiven self.old stream (R.remaining reader.old) given →
+            GivesNext self.new stream (R.remaining reader.new) given piece) }
         ensures fault { IfErr result (λ fault. (fault ≡ Fault.OutOfMemory) ⊎ (fault ≡ Fault.Read)) }
     {
         if self.ended {
@@ -86,7 +87,8 @@ impl TraceTextReader {
 
     /// Cuts what was read, up to the end of the next trace text: its first bytes, or None where no trace text ends there.
     fn cut_next(&mut self) -> Result<Option<Vec<u8>>, AllocError>
-        ensures cut { IfOk result (λ piece. (stream now : Option (List ℕ)) (given : List (List ℕ)) → IsWithinStream self.old stream now given → CutsOff self.new stream now given piece) }
+        ensures cut { IfOk result (λ piece. (stream now : Option (List ℕ)) (given : List (List ℕ)) → IsWithinStream self.old stream now given →
+            CutsOff self.new stream now given piece) }
         ensures all { IfOk result (λ piece. piece ≡ None → self.new.uncut ≡ []) }
     {
         let (mut pieces, count) = self.splitter.cut(&self.chunk[self.cut..self.read], 1)?;
@@ -97,7 +99,8 @@ impl TraceTextReader {
     /// Reads once more, when all that was read is cut: whether there was a byte.
     fn read_more<R: Read>(&mut self, reader: &mut R) -> Result<bool, Fault>
         requires { self.old.uncut ≡ [] }
-        ensures read { IfOk result (λ more. (stream : Option (List ℕ)) (given : List (List ℕ)) → IsWithinStream self.old stream (R.remaining reader.old) given → IsWithinStream self.new stream (R.remaining reader.new) given) }
+        ensures read { IfOk result (λ more. (stream : Option (List ℕ)) (given : List (List ℕ)) → IsWithinStream self.old stream (R.remaining reader.old) given →
+            IsWithinStream self.new stream (R.remaining reader.new) given) }
         ensures end { IfOk result (λ more. more ≡ false → IsAtEnd (R.remaining reader.new)) }
         ensures none { IfOk result (λ more. more ≡ false → self.new.uncut ≡ []) }
         ensures fault { IfErr result (λ fault. fault ≡ Fault.Read) }
@@ -111,7 +114,8 @@ impl TraceTextReader {
     /// What follows the last trace text that ended, at the end of the stream.
     fn end(&mut self) -> Option<Vec<u8>>
         requires { self.old.uncut ≡ [] }
-        ensures { (stream now : Option (List ℕ)) (given : List (List ℕ)) → IsWithinStream self.old stream now given → IsAtEnd now → GivesNext self.new stream now given result }
+        ensures { (stream now : Option (List ℕ)) (given : List (List ℕ)) → IsWithinStream self.old stream now given → IsAtEnd now →
+            GivesNext self.new stream now given result }
     {
         self.ended = true;
         let splitter = StreamSplitter::new(self.alloc, MAX_TEXT_BYTES + 1);

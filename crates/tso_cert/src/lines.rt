@@ -1,4 +1,4 @@
-ghost use Rattle.std.specs.Prelude.{◌≡◌, ◌≢◌, [], ◌∷◌, Result, IfOk, IfErr};
+ghost use Rattle.std.specs.Prelude.{◌≡◌, ◌≢◌, ◌∷◌, Result, IfOk, IfErr};
 ghost use Rattle.line_text.specs.Lines.{tokens_of, tokens_after};
 ghost use Rattle.tso_cert.specs.Internal.LineValues.{cert_line_said, step_said};
 ghost use Rattle.tso_cert.specs.declared.faults.CertificateRefusal.{CertificateRefusal};

@@ -1,7 +1,7 @@
-ghost use Rattle.std.specs.Prelude.{◌≡◌, ◌++◌, ◌∷◌, All, string_bytes, OnOk, IfOk};
+ghost use Rattle.std.specs.Prelude.{◌≡◌, ◌++◌, All, string_bytes, OnOk, IfOk};
 ghost use Rattle.std.specs.List.{flat_map};
 ghost use Rattle.line_text.specs.Lines.{line_text};
-ghost use Rattle.tso_cert.specs.Printed.{event_text, step_tokens, steps_tokens, cert_text, Fits, StepFits, CertFits};
+ghost use Rattle.tso_cert.specs.Printed.{step_tokens, steps_tokens, cert_text, StepFits, CertFits};
 ghost use Rattle.tso_cert.specs.Spelling.{SpellsCertificate};
 
 use crate::faults::OutOfMemory;

@@ -83,7 +83,8 @@ fn read_numbered(
     tokens: Option<&[u8]>,
 ) -> Result<RefutationLine, CertificateRefusal>
     ensures found { IfOk result (λ l. numbered_said number (first.now ∷ tokens_after tokens.entry) ≡ Result.Ok l) }
-    ensures refused { IfErr result (λ why. why ≢ CertificateRefusal.OutOfMemory → numbered_said number (first.now ∷ tokens_after tokens.entry) ≡ Result.Err why) }
+    ensures refused { IfErr result (λ why. why ≢ CertificateRefusal.OutOfMemory →
+        numbered_said number (first.now ∷ tokens_after tokens.entry) ≡ Result.Err why) }
 {
     let (from, to, name, rest) = read_edge(number, first, tokens)?;
     read_named(alloc, from, to, name, rest)

@@ -32,7 +32,8 @@ pub fn read_evidence(alloc: Global, text: &[u8]) -> Result<Evidence, EvidenceTex
 /// The evidence that a text spells, or its refusal.
 fn read(alloc: Global, text: &[u8]) -> Result<Evidence, EvidenceTextFault>
     ensures found { IfOk result (λ e. read_parts evidence_reading [] (parts_of text.now) ≡ Result.Ok e) }
-    ensures refused { IfErr result (λ fault. fault.why ≢ EvidenceFault.OutOfMemory → read_parts evidence_reading [] (parts_of text.now) ≡ Result.Err (fault.line, fault.why)) }
+    ensures refused { IfErr result (λ fault. fault.why ≢ EvidenceFault.OutOfMemory →
+        read_parts evidence_reading [] (parts_of text.now) ≡ Result.Err (fault.line, fault.why)) }
     ensures memory { IfErr result (λ fault. fault.why ≡ EvidenceFault.OutOfMemory → fault.line ≡ 0) }
 {
     let mut lines = Vec::new(alloc);

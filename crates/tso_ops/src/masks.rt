@@ -1,5 +1,5 @@
 //! Rows of bits, one for the number of each event.
-ghost use Rattle.std.specs.Prelude.{◌≡◌, ◌↔◌, ◌≤◌, ◌<◌, ℕ, Some, [], length, slice_index_or, IfOk, OnOk, IfSome};
+ghost use Rattle.std.specs.Prelude.{◌≡◌, ◌<◌, ℕ, Some, [], length, slice_index_or, IfOk, OnOk, IfSome};
 ghost use Rattle.tso_ops.specs.Values.{TraceValue, rows};
 ghost use Rattle.tso_ops.specs.Limits.{IsTrace};
 ghost use Rattle.tso_ops.specs.declared.events.Source.{Source};

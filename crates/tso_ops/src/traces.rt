@@ -1,7 +1,7 @@
-ghost use Rattle.std.specs.Prelude.{◌≡◌, ◌≢◌, ◌<◌, ◌≤◌, ◌↔◌, ℕ, [], IsSome, IfSome, IfOk, IfErr, OnOk};
+ghost use Rattle.std.specs.Prelude.{◌≡◌, ◌≢◌, ◌<◌, ◌↔◌, [], IsSome, IfSome, IfOk, IfErr, OnOk};
 ghost use Rattle.tso_ops.specs.declared.faults.ValueFault.{ValueFault};
 ghost use Rattle.tso_ops.specs.declared.settings.Version.TheVariants.{One};
-ghost use Rattle.tso_ops.specs.Settings.{event_limit, first_value, version_one_tso, setting_of, setting_of_first, setting_of_order};
+ghost use Rattle.tso_ops.specs.Settings.{first_value, version_one_tso, setting_of, setting_of_first, setting_of_order};
 ghost use Rattle.tso_ops.specs.Values.{rows, trace_of_lists, program_of};
 ghost use Rattle.tso_ops.specs.Limits.{IsTrace, IsValueRefusal};
 ghost use Rattle.tso_ops.specs.Events.{processor_count, outcomes_at, event_total, event_at, IsLoad, IsLoadAt, IsStore, IsStoreTo, IsSwapLoad, IsEventOf, HasBarriersBefore, HasStbarsBefore, HasSource, SourceIs};

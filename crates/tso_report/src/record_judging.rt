@@ -38,8 +38,10 @@ pub fn judge_recorded<H: Threads + Wait, W: Write>(
     ensures violation { IfOk result (λ verdict. (verdict ≡ Verdict.Violation) ↔ IsViolation recorded.now.trace) }
     ensures otherwise { IfOk result (λ verdict. (verdict ≡ Verdict.Violation) ⊎ (verdict ≡ Verdict.NoViolation)) }
     ensures no_order { IfOk result (λ verdict. verdict ≡ Verdict.Violation → IsConsistent recorded.now.trace → ⊥) }
-    ensures holds { IfOk result (λ verdict. verdict ≡ Verdict.Violation → (text : List ℕ) × ShowsViolationOf recorded.now.trace text × Appends (W.contents writer.old) (W.contents writer.new) text) }
-    ensures no_false_alarm { IfOk result (λ verdict. recorded.now.lawful ≡ true → (verdict ≡ Verdict.NoViolation) × ((text : List ℕ) × ShowsNoViolationOf recorded.now.trace text × Appends (W.contents writer.old) (W.contents writer.new) text)) }
+    ensures holds { IfOk result (λ verdict. verdict ≡ Verdict.Violation → (text : List ℕ) × ShowsViolationOf recorded.now.trace text ×
+        Appends (W.contents writer.old) (W.contents writer.new) text) }
+    ensures no_false_alarm { IfOk result (λ verdict. recorded.now.lawful ≡ true → (verdict ≡ Verdict.NoViolation) ×
+        ((text : List ℕ) × ShowsNoViolationOf recorded.now.trace text × Appends (W.contents writer.old) (W.contents writer.new) text)) }
     ensures fault { IfErr result (LeavesAtFault (IsTraceReport recorded.now.trace) (W.contents writer.old) (W.contents writer.new)) }
     ensures no_read { IfErr result (λ fault. fault ≢ Fault.Read) }
 {

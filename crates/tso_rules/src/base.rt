@@ -1,5 +1,5 @@
 //! The base rules.
-ghost use Rattle.std.specs.Prelude.{◌≡◌, ◌↔◌, ◌<◌, ◌+◌, ◌*◌, ◌/◌, ◌^◌, ℕ, suc, Some, IsTrue, IfOk, OnOk, IfSome, MatchOption};
+ghost use Rattle.std.specs.Prelude.{◌≡◌, ◌↔◌, ◌<◌, ◌+◌, ◌*◌, ◌/◌, ◌^◌, ℕ, suc, Some, IfOk, OnOk, IfSome, MatchOption};
 ghost use Rattle.bitsets.specs.Rows.{HasBit, HasNumber, IsListOf, Marks};
 ghost use Rattle.tso_ops.specs.Events.{event_at, event_total, IsEvent};
 ghost use Rattle.tso_model.specs.Rules.{BasePair};

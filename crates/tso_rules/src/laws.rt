@@ -1,5 +1,5 @@
 //! What the rows say of rank sets.
-ghost use Rattle.std.specs.Prelude.{◌≡◌, ◌↔◌, ℕ, suc, List, Contains};
+ghost use Rattle.std.specs.Prelude.{◌↔◌, ℕ, suc, List, Contains};
 ghost use Rattle.order_paths.specs.Paths.{Reaches};
 ghost use Rattle.order_graph.specs.Digraphs.{Digraph, IsEdge};
 ghost use Rattle.tso_ops.specs.Values.{TraceValue};

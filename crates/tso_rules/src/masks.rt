@@ -2,7 +2,7 @@
 ghost use Rattle.std.specs.Prelude.{◌≡◌, ◌↔◌, ◌+◌, ◌*◌, ◌/◌, ◌<◌, ◌≤◌, ℕ, suc, length, IfOk, MatchOption};
 ghost use Rattle.bitsets.specs.Rows.{HasNumber};
 ghost use Rattle.bitsets.specs.Tables.{IsSet, Adds};
-ghost use Rattle.tso_ops.specs.Events.{event_total, IsLoad, HasSource};
+ghost use Rattle.tso_ops.specs.Events.{event_total, HasSource};
 ghost use Rattle.tso_rules.specs.SourceMasks.{AreSourceMasks};
 ghost use Rattle.tso_rules.specs.Internal.MaskTables.{AreMasksFrom, IsLaterLoad, IsNextLoad, IsSourceAfter};
 

@@ -1,5 +1,5 @@
 //! Why an edge holds.
-ghost use Rattle.std.specs.Prelude.{◌≡◌, ◌↔◌, ◌<◌, ℕ, None, IsTrue, IfOk, IfSome, MatchOption};
+ghost use Rattle.std.specs.Prelude.{◌≡◌, ◌↔◌, ◌<◌, ℕ, None, IsTrue, IfOk, MatchOption};
 ghost use Rattle.order_graph.specs.Digraphs.{IsEdge};
 ghost use Rattle.order_paths.specs.Paths.{Reaches};
 ghost use Rattle.tso_model.specs.Rules.{BasePair, InferredBy};
@@ -182,7 +182,8 @@ fn first_given<G: PathSearch>(
 ) -> Result<Option<Given>, OutOfMemory>
     ensures { IfOk result (λ found. MatchOption found ((rule : InferredRule) (l : ℕ) →
         IsGivenBy trace.now rule l (Reaches (IsEdge (G.digraph graph.now))) u v → ⊥)
-        (λ g. GivesBy trace.now (IsEdge (G.digraph graph.now)) u v g.rule g.load g.from g.to × IsFirstGiven trace.now (IsEdge (G.digraph graph.now)) u v g.rule g.load)) }
+        (λ g. GivesBy trace.now (IsEdge (G.digraph graph.now)) u v g.rule g.load g.from g.to ×
+        IsFirstGiven trace.now (IsEdge (G.digraph graph.now)) u v g.rule g.load)) }
 {
     if let Some(given) = least_given(trace, graph, InferredRule::LoadPast, u, v)? {
         return Ok(Some(given));
@@ -208,7 +209,8 @@ fn inferred_reason<G: PathSearch>(
     v: usize,
 ) -> Result<Option<Reason>, OutOfMemory>
     requires { (base : BaseRule) → BasePair trace.now base u v → ⊥ }
-    ensures { IfOk result (λ found. MatchOption found (IsUngiven trace.now (IsEdge (G.digraph graph.now)) u v) (IsJustifiedOver trace.now (IsEdge (G.digraph graph.now)) u v)) }
+    ensures { IfOk result (λ found. MatchOption found (IsUngiven trace.now (IsEdge (G.digraph graph.now)) u v)
+        (IsJustifiedOver trace.now (IsEdge (G.digraph graph.now)) u v)) }
 {
     let _nodes = graph.nodes();
     let Some(given) = first_given(trace, graph, u, v)? else {
@@ -237,7 +239,8 @@ pub fn justify<G: PathSearch>(
     u: usize,
     v: usize,
 ) -> Result<Option<Reason>, OutOfMemory>
-    ensures { IfOk result (λ found. MatchOption found (IsUngiven trace.now (IsEdge (G.digraph graph.now)) u v) (IsJustifiedOver trace.now (IsEdge (G.digraph graph.now)) u v)) }
+    ensures { IfOk result (λ found. MatchOption found (IsUngiven trace.now (IsEdge (G.digraph graph.now)) u v)
+        (IsJustifiedOver trace.now (IsEdge (G.digraph graph.now)) u v)) }
 {
     match base_edge(trace, u, v) {
         Some(rule) => Ok(Some(Reason::Base(rule))),

@@ -1,6 +1,5 @@
 //! The sources of loads as numbers.
 ghost use Rattle.std.specs.Prelude.{◌≡◌, ◌↔◌, ◌<◌, ◌^◌, ℕ, Some, length, IfSome, IfOk, OnOk};
-ghost use Rattle.tso_ops.specs.Events.{HasSource};
 ghost use Rattle.bitsets.specs.Rows.{HasNumber, Marks};
 ghost use Rattle.tso_rules.specs.Internal.MarkedRows.{IsOtherSource, IsSourceIn, IsSourceOf};
 

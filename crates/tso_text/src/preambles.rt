@@ -1,5 +1,5 @@
 //! How texts begin: their header, memory model and first values.
-ghost use Rattle.std.specs.Prelude.{◌≡◌, ◌≢◌, ◌∷◌, [], ◌≤◌, length, codes, OnOk, IfOk, IfErr};
+ghost use Rattle.std.specs.Prelude.{◌≡◌, ◌≢◌, [], ◌≤◌, length, OnOk, IfOk, IfErr};
 ghost use Rattle.line_text.specs.Lines.{parts_of, tokens_after};
 ghost use Rattle.tso_ops.specs.Limits.{KeepsEntries};
 ghost use Rattle.tso_ops.specs.Settings.{setting_of};
@@ -23,7 +23,8 @@ pub(crate) fn read_header<'a>(
     header: &[u8],
     text: &'a [u8],
 ) -> Result<(Setting, usize, &'a [u8]), TextFault>
-    ensures begun { IfOk result (λ begun. HasBegun (header_alone header.now (whole_lines (parts_of text.now))) text.now (setting_of begun.0) begun.1 begun.2.now) }
+    ensures begun { IfOk result (λ begun. HasBegun (header_alone header.now (whole_lines (parts_of text.now))) text.now
+        (setting_of begun.0) begun.1 begun.2.now) }
     ensures refused { IfErr result (λ fault. IsPreambleRefusal (header_alone header.now (whole_lines (parts_of text.now))) fault.line fault.why) }
     ensures why { IfErr result (λ fault. fault.why ≡ Why.BadHeader) }
 {
@@ -44,7 +45,8 @@ pub(crate) fn read_setting<'a>(
     text: &'a [u8],
 ) -> Result<(Setting, usize, &'a [u8]), TextFault>
     requires { length text.now ≤ text_byte_limit }
-    ensures begun { IfOk result (λ begun. HasBegun (setting_preamble one.now two.now (whole_lines (parts_of text.now))) text.now (setting_of begun.0) begun.1 begun.2.now) }
+    ensures begun { IfOk result (λ begun. HasBegun (setting_preamble one.now two.now (whole_lines (parts_of text.now))) text.now
+        (setting_of begun.0) begun.1 begun.2.now) }
     ensures refused { IfErr result (λ fault. fault.why ≢ Why.OutOfMemory →
         IsPreambleRefusal (setting_preamble one.now two.now (whole_lines (parts_of text.now))) fault.line fault.why) }
     ensures memory { IfErr result (λ fault. fault.why ≡ Why.OutOfMemory → fault.line ≡ 0) }

@@ -1,4 +1,4 @@
-ghost use Rattle.std.specs.Prelude.{◌≡◌, ◌≢◌, ◌∷◌, [], List, ◌+◌, ◌≤◌, length, MatchResult, IfOk, IfErr, OnOk};
+ghost use Rattle.std.specs.Prelude.{◌≡◌, ◌≢◌, List, ◌+◌, ◌≤◌, length, MatchResult, IfOk, IfErr};
 ghost use Rattle.line_text.specs.Lines.{parts_of};
 ghost use Rattle.tso_ops.specs.Settings.{setting_of};
 ghost use Rattle.tso_ops.specs.Values.{TraceValue, ProgramValue, rows};

@@ -37,7 +37,8 @@ impl<T: Form> Reading<T> {
     pub(crate) fn accept_line(&mut self, setting: &Setting, line: &[u8]) -> Result<bool, Why>
         requires keeps { T.keeps (setting_of setting.now) self.old.tally (items_of (rows self.old.lists.items)) }
         requires few { length (rows self.old.lists.items) ≤ 16 }
-        ensures accepted { IfOk result (λ ended. AcceptsLine (T.format.grammar (setting_of setting.now)) (rows self.old.lists.items) line.now ended (rows self.new.lists.items)) }
+        ensures accepted { IfOk result (λ ended. AcceptsLine (T.format.grammar (setting_of setting.now)) (rows self.old.lists.items) line.now ended
+            (rows self.new.lists.items)) }
         ensures keeps { OnOk result (T.keeps (setting_of setting.now) self.new.tally (items_of (rows self.new.lists.items))) }
         ensures few { OnOk result (length (rows self.new.lists.items) ≤ 16) }
         ensures refused { IfErr result (IsLineRefusedFor (T.format.grammar (setting_of setting.now)) (rows self.old.lists.items) line.now) }
@@ -51,7 +52,8 @@ impl<T: Form> Reading<T> {
         requires said { CanSay (T.format.grammar (setting_of setting.now)) said }
         requires keeps { T.keeps (setting_of setting.now) self.old.tally (items_of (rows self.old.lists.items)) }
         requires few { length (rows self.old.lists.items) ≤ 16 }
-        ensures accepted { IfOk result (λ ended. AcceptsSaid (T.format.grammar (setting_of setting.now)) (rows self.old.lists.items) said ended (rows self.new.lists.items)) }
+        ensures accepted { IfOk result (λ ended. AcceptsSaid (T.format.grammar (setting_of setting.now)) (rows self.old.lists.items) said ended
+            (rows self.new.lists.items)) }
         ensures keeps { OnOk result (T.keeps (setting_of setting.now) self.new.tally (items_of (rows self.new.lists.items))) }
         ensures few { OnOk result (length (rows self.new.lists.items) ≤ 16) }
         ensures refused { IfErr result (IsSaidRefusedFor (T.format.grammar (setting_of setting.now)) (rows self.old.lists.items) said) }

@@ -1,4 +1,4 @@
-ghost use Rattle.std.specs.Prelude.{◌≡◌, ◌<◌, ◌≤◌, ℕ, suc, List, OnOk, IfOk, length};
+ghost use Rattle.std.specs.Prelude.{◌≡◌, ◌<◌, ◌≤◌, suc, OnOk, IfOk, length};
 ghost use Rattle.unit_core.specs.Machine.{IsFirstMemory};
 ghost use Rattle.unit_core.specs.Records.{AreOpsOf, Concludes, EmptiesBelow, IsRecordOf, IsRecorded};
 ghost use Rattle.unit_core.specs.Units.{TakesDrains, IsUnit, waiting_of};

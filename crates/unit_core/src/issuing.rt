@@ -1,4 +1,4 @@
-ghost use Rattle.std.specs.Prelude.{◌≡◌, ◌<◌, Option, Some, IfOk, IfErr};
+ghost use Rattle.std.specs.Prelude.{◌≡◌, ◌<◌, IfOk, IfErr};
 ghost use Rattle.tso_ops.specs.Values.{op_of};
 ghost use Rattle.unit_core.specs.Units.{Takes};
 ghost use Rattle.unit_core.specs.Issues.{IsIssuable, step_of};

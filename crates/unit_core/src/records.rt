@@ -1,4 +1,4 @@
-ghost use Rattle.std.specs.Prelude.{◌≡◌, ◌≤◌, ◌&&◌, List, IfOk, All, length, cond, ◌==◌, None};
+ghost use Rattle.std.specs.Prelude.{◌≡◌, ◌&&◌, IfOk, All, length, ◌==◌};
 ghost use Rattle.std.specs.List.{flat_map};
 ghost use Rattle.tso_ops.specs.Values.{ReadFits, rows};
 ghost use Rattle.unit_core.specs.Machine.{outcomes_of, lists_from};

@@ -141,7 +141,8 @@ fn issue_rest<U: MemoryUnit>(
     ensures kept { KeepsMachine (U.value_of unit.old) (U.value_of unit.new) }
     ensures issued { HasIssued program.now issued.new (U.value_of unit.new) }
     ensures all { OnOk result (IssuesRest program.now p issued.old issued.new) }
-    ensures follows { OnOk result (FollowsActs program.now (rest_of program.now issued.old p) issued.old issued.new (U.value_of unit.old) (U.value_of unit.new)) }
+    ensures follows { OnOk result (FollowsActs program.now (rest_of program.now issued.old p) issued.old issued.new (U.value_of unit.old)
+        (U.value_of unit.new)) }
 {
     let _processors = program.processors();
     for _next in issued[p]..program.ops(p).len() {
@@ -160,7 +161,8 @@ fn issue_all<U: MemoryUnit>(
     ensures kept { KeepsMachine (U.value_of unit.old) (U.value_of unit.new) }
     ensures issued { HasIssued program.now issued.new (U.value_of unit.new) }
     ensures ops { OnOk result (AreOpsOf program.now (U.value_of unit.new).steps) }
-    ensures follows { OnOk result (FollowsActs program.now (issues_of 0 (left_from 0 issued.old program.now.lists)) issued.old issued.new (U.value_of unit.old) (U.value_of unit.new)) }
+    ensures follows { OnOk result (FollowsActs program.now (issues_of 0 (left_from 0 issued.old program.now.lists)) issued.old issued.new (U.value_of unit.old)
+        (U.value_of unit.new)) }
 {
     for p in 0..program.processors() {
         issue_rest(unit, program, issued, p)?;
@@ -184,7 +186,8 @@ fn issue_and_record<U: MemoryUnit>(
     ensures recorded { IfOk result (IsRecordOf program.now (U.value_of unit.new)) }
     ensures kept { IfOk result IsRecorded }
     ensures ops { OnOk result (AreOpsOf program.now (U.value_of unit.new).steps) }
-    ensures belongs { (U.value_of unit.old).lawful ≡ true → OnOk result (BelongsTo (U.value_of unit.new).first program.now.lists schedule.now (U.value_of unit.new).steps) }
+    ensures belongs { (U.value_of unit.old).lawful ≡ true → OnOk result
+        (BelongsTo (U.value_of unit.new).first program.now.lists schedule.now (U.value_of unit.new).steps) }
 {
     preset_all(unit, program);
     let mut issued = [0; 16];

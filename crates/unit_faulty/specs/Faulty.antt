@@ -1,5 +1,5 @@
 -- What each call of a faulty unit answers, which steps it appends, and what it leaves.
-use Rattle.std.specs.Prelude.{ℕ, zero, suc, ◌-◌, List, [], ◌∷◌, ◌++◌, Option, None, Some, Bool, true, false, codes, cond, ◌&&◌, ◌==◌, nat_le, length, map, set, drop, take, replicate, slice_get, slice_index}
+use Rattle.std.specs.Prelude.{ℕ, zero, suc, ◌-◌, List, [], ◌∷◌, ◌++◌, Option, None, Some, Bool, true, false, cond, ◌&&◌, ◌==◌, nat_le, length, map, set, drop, take, replicate, slice_get, slice_index}
 use Rattle.circular_buffer.specs.Buffer.{last_item}
 use Rattle.tso_ops.specs.declared.settings.Order.TheVariants.{Tso}
 use Rattle.store_buffers.specs.declared.entries.StoreEntry.{StoreEntry}

@@ -1,4 +1,4 @@
-ghost use Rattle.std.specs.Prelude.{◌≡◌, ◌<◌, ◌≤◌, [], ◌∷◌, ◌++◌, false, IfOk, IfErr, cond, set};
+ghost use Rattle.std.specs.Prelude.{◌≡◌, ◌<◌, ◌≤◌, [], false, IfOk, IfErr, cond, set};
 ghost use Rattle.tso_ops.specs.declared.settings.Order.TheVariants.{Tso};
 ghost use Rattle.unit_core.specs.declared.steps.Step.TheVariants.{Store, Drain, Load, Swap, Membar, Stbar};
 ghost use Rattle.unit_core.specs.Units.{AnswersDrain, Takes, new_unit};

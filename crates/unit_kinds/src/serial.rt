@@ -1,5 +1,5 @@
 //! The serial unit, without store buffers.
-ghost use Rattle.std.specs.Prelude.{◌≡◌, ◌<◌, ◌≤◌, [], ◌∷◌, ◌++◌, true, IfOk, IfErr, set, slice_index};
+ghost use Rattle.std.specs.Prelude.{◌≡◌, ◌<◌, [], ◌∷◌, ◌++◌, true, IfOk, IfErr};
 ghost use Rattle.unit_core.specs.declared.steps.Step.TheVariants.{Store, Drain, Load, Swap, Membar, Stbar};
 ghost use Rattle.unit_core.specs.Units.{Takes};
 ghost use Rattle.unit_kinds.specs.Serial.{new_serial, serial_unit};

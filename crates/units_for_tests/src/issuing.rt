@@ -2,7 +2,6 @@ ghost use Rattle.std.specs.Prelude.{◌≡◌, ◌<◌, [], All, OnOk};
 ghost use Rattle.unit_core.specs.Issues.{IsIssuable};
 ghost use Rattle.unit_core.specs.Machine.{IsFirstMemory};
 ghost use Rattle.unit_core.specs.Records.{AreOpsOf};
-ghost use Rattle.unit_core.specs.Units.{KeepsMachine};
 ghost use Rattle.units_for_tests.specs.Issues.{Issues};
 
 use tso_ops::{Op, OutOfMemory, Program};

@@ -1,4 +1,4 @@
-ghost use Rattle.std.specs.Prelude.{◌≡◌, Decides};
+ghost use Rattle.std.specs.Prelude.{Decides};
 ghost use Rattle.issue_desk.specs.Finishing.{ArePassesOf};
 
 use issue_desk::Pass;

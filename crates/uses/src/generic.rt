@@ -1,6 +1,6 @@
 //! Of the crates for any purpose.
 
-ghost use Rattle.std.specs.Prelude.{◌<◌, ◌≤◌, ◌^◌, length, All};
+ghost use Rattle.std.specs.Prelude.{◌<◌};
 
 use bitsets::mark;
 use chain_reach::{Groups, Reach};

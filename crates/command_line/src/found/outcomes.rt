@@ -1,10 +1,10 @@
 //! What the matches of `outcomes` ask for.
-ghost use Rattle.std.specs.Prelude.{◌≡◌, IfOk, codes, option_map};
-ghost use Rattle.clap.specs.Words.{first_of, found_of, rows_of};
+ghost use Rattle.std.specs.Prelude.{◌≡◌, IfOk, option_map};
+ghost use Rattle.clap.specs.Words.{found_of, rows_of};
 ghost use Rattle.command_line.specs.Commands.{asked_in};
 ghost use Rattle.command_line.specs.Requests.{asked_of};
-ghost use Rattle.command_line.specs.Options.{is_true, number_or, outcome_form_of};
-ghost use Rattle.command_line.specs.Subcommands.{file_of, outcomes, outcomes_asked};
+ghost use Rattle.command_line.specs.Options.{outcome_form_of};
+ghost use Rattle.command_line.specs.Subcommands.{outcomes, outcomes_asked};
 
 use super::{pair_of, refuse};
 use crate::help;
@@ -51,7 +51,8 @@ fn seen<'a>(
     outcomes: OutcomesRequest<'a>,
     name: &'a str,
 ) -> Result<Request<'a>, AllocError>
-    ensures { IfOk result (λ request. asked_of request ≡ outcomes_asked outcomes.entry.options (option_map (λ file. file.now) outcomes.entry.program) (Some name.now)) }
+    ensures { IfOk result (λ request. asked_of request ≡ outcomes_asked outcomes.entry.options (option_map (λ file. file.now) outcomes.entry.program)
+        (Some name.now)) }
 {
     if let OutcomeForm::States = outcomes.options.form {
         return refuse(alloc, help::STATES_SEEN);

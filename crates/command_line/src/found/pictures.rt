@@ -27,7 +27,8 @@ pub(crate) fn draw<'a>(alloc: Global, matches: &ArgMatches<'a>) -> Result<Reques
 
 /// The form of the picture; none where a decision is to have the names of the field.
 fn chosen_form(matches: &ArgMatches<'_>) -> Option<Presentation>
-    ensures { let rows = rows_of (found_of matches.now) in result ≡ picture_form (is_true (one_of (codes "decide") rows)) (chosen_picture (first_of (codes "edges") rows)) }
+    ensures { let rows = rows_of (found_of matches.now) in result ≡ picture_form (is_true (one_of (codes "decide") rows))
+        (chosen_picture (first_of (codes "edges") rows)) }
 {
     picture_of(is_used(matches, "decide"), picture(matches))
 }

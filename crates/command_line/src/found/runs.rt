@@ -30,7 +30,9 @@ fn run_with<'a>(
     options: RunOptions,
     matches: &ArgMatches<'a>,
 ) -> Result<Request<'a>, AllocError>
-    ensures { let rows = rows_of (found_of matches.now) in let given = given_in run.parameters rows in IfOk result (λ request. asked_of request ≡ run_asked options (number_or 0 (given (codes "seed"))) (drain_turns_of given) (times_of given) (file_of (given (codes "program")))) }
+    ensures { let rows = rows_of (found_of matches.now) in let given = given_in run.parameters rows in
+        IfOk result (λ request. asked_of request ≡ run_asked options (number_or 0 (given (codes "seed"))) (drain_turns_of given) (times_of given)
+        (file_of (given (codes "program")))) }
 {
     let drain_seed = number(matches, "seed", 0);
     let drain_turns = drain_turns(matches);

@@ -1,5 +1,5 @@
 //! `batch`: traces that stand one after the other, judged or decided, with a line for each, or the texts of those that are violations.
-ghost use Rattle.std.specs.Prelude.{◌≡◌, ◌<◌, ◌≤◌, [], Bool, List, Option, ℕ, None, false, true, filter_map, get_or, is_some, length, option_to_list, IfOk, IfErr, IfSome, OnErr, OnOk};
+ghost use Rattle.std.specs.Prelude.{◌≡◌, ◌<◌, ◌≤◌, [], List, Option, ℕ, None, false, true, filter_map, get_or, is_some, length, option_to_list, IfOk, IfErr, IfSome, OnErr, OnOk};
 ghost use Rattle.std.specs.Borrow.{Bor};
 ghost use Rattle.std.specs.Io.KnownBytes.{Appends, Consumes};
 ghost use Rattle.std.specs.List.{list_all};

@@ -1,6 +1,6 @@
 //! `check` and `verify`: a certificate, or evidence of whether a trace has an order that meets the axioms of its memory model, against its
 //! trace.
-ghost use Rattle.std.specs.Prelude.{◌≡◌, ◌≢◌, [], ◌∷◌, IfOk, IfErr, OnOk, true, false};
+ghost use Rattle.std.specs.Prelude.{◌≡◌, ◌≢◌, IfOk, IfErr, OnOk, true, false};
 ghost use Rattle.command_line.specs.Requests.{asked_of};
 ghost use Rattle.command_line.specs.declared.requests.Request.TheVariants.{Check};
 ghost use Rattle.text_streams.specs.declared.faults.Fault.TheVariants.{NoThread};

@@ -1,5 +1,5 @@
 //! `outcomes --seen`: how often a stream of traces has each trace of a program's runs.
-ghost use Rattle.std.specs.Prelude.{◌≡◌, ◌≢◌, ◌⊎◌, [], ◌∷◌, ◌++◌, IfOk, IfErr, IfSome, OnOk, true, false};
+ghost use Rattle.std.specs.Prelude.{◌≡◌, ◌≢◌, IfOk, IfErr, OnOk, true, false};
 ghost use Rattle.command_line.specs.Requests.{asked_of, files_of};
 ghost use Rattle.command_line.specs.declared.requests.Request.TheVariants.{Seen};
 ghost use Rattle.outcome_reports.specs.SeenTraces.{IsSeenOfReaders};

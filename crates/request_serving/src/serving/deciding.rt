@@ -1,5 +1,5 @@
 //! `decide`: whether one trace has an order that meets the axioms of its memory model, with evidence for the answer.
-ghost use Rattle.std.specs.Prelude.{◌≡◌, ◌⊎◌, [], ◌∷◌, IfOk, IfErr, IfSome, None, option_map, string_bytes};
+ghost use Rattle.std.specs.Prelude.{◌≡◌, ◌⊎◌, IfOk, IfErr, IfSome, None, option_map, string_bytes};
 ghost use Rattle.command_line.specs.Requests.{asked_of};
 ghost use Rattle.command_line.specs.declared.requests.Request.TheVariants.{Decide};
 ghost use Rattle.text_streams.specs.WrittenTexts.{LeavesAtFault, WritesWhole};
@@ -9,7 +9,7 @@ ghost use Rattle.trace_judging.specs.Limits.{HasWorkerRange};
 ghost use Rattle.trace_reports.specs.declared.answers.Answer.{Answer};
 ghost use Rattle.request_serving.specs.Deciding.{IsDecided};
 ghost use Rattle.request_serving.specs.Presentations.{decided_as, refused_as};
-ghost use Rattle.request_texts.specs.NthTraces.{IsSaidOf, TakesTrace};
+ghost use Rattle.request_texts.specs.NthTraces.{IsWrittenOf, TakesTrace};
 ghost use Rattle.request_texts.specs.OpenedFiles.{OpensNext, files_named, name_in, text_bytes};
 
 use crate::serving::reporting::{report_fewer, write_report};
@@ -57,7 +57,7 @@ fn report_asked<H: Threads + Wait + AllocGlobal>(
     asked: Option<Vec<u8>>,
 ) -> Result<Report<Answer>, Fault>
     requires { HasWorkerRange request.now.workers }
-    ensures said { IfOk result (λ report. IsSaidOf Answer.Refused
+    ensures said { IfOk result (λ report. IsWrittenOf Answer.Refused
         (IsDecisionOf (decided_as request.now.presentation) (refused_as request.now.presentation) request.now.effort) (option_map (λ text. text.items) asked)
         (string_bytes report.text) report.verdict) }
     ensures fault { IfErr result (λ fault. (fault ≡ Fault.OutOfMemory) ⊎ (fault ≡ Fault.NoThread)) }

@@ -1,5 +1,5 @@
 //! `judge`, `explain` and `draw`: the verdict on one trace.
-ghost use Rattle.std.specs.Prelude.{◌≡◌, ◌⊎◌, [], ◌∷◌, IfOk, IfErr, IfSome, None, option_map, string_bytes};
+ghost use Rattle.std.specs.Prelude.{◌≡◌, ◌⊎◌, IfOk, IfErr, IfSome, None, option_map, string_bytes};
 ghost use Rattle.command_line.specs.Requests.{asked_of};
 ghost use Rattle.command_line.specs.declared.requests.Request.TheVariants.{Judge};
 ghost use Rattle.text_streams.specs.WrittenTexts.{LeavesAtFault, WritesWhole};
@@ -8,8 +8,8 @@ ghost use Rattle.trace_judging.specs.Limits.{HasWorkerRange};
 ghost use Rattle.trace_reports.specs.Renderings.{IsTextOfInput};
 ghost use Rattle.trace_reports.specs.declared.verdicts.Verdict.{Verdict};
 ghost use Rattle.request_serving.specs.Endings.{IsVerdictAsAsked};
-ghost use Rattle.request_serving.specs.Presentations.{refused_as, said_as};
-ghost use Rattle.request_texts.specs.NthTraces.{IsSaidOf, TakesTrace};
+ghost use Rattle.request_serving.specs.Presentations.{refused_as, rendered_as};
+ghost use Rattle.request_texts.specs.NthTraces.{IsWrittenOf, TakesTrace};
 ghost use Rattle.request_texts.specs.OpenedFiles.{OpensNext, files_named, name_in, text_bytes};
 
 use crate::serving::reporting::{report_fewer, write_report};
@@ -58,7 +58,7 @@ fn report_asked<H: Threads + Wait + Sync + AllocGlobal>(
     asked: Option<Vec<u8>>,
 ) -> Result<Report<Verdict>, Fault>
     requires { HasWorkerRange request.now.workers }
-    ensures said { IfOk result (λ report. IsSaidOf Verdict.Refused (IsTextOfInput (said_as request.now.presentation) (refused_as request.now.presentation))
+    ensures said { IfOk result (λ report. IsWrittenOf Verdict.Refused (IsTextOfInput (rendered_as request.now.presentation) (refused_as request.now.presentation))
         (option_map (λ text. text.items) asked) (string_bytes report.text) report.verdict) }
     ensures fault { IfErr result (λ fault. (fault ≡ Fault.OutOfMemory) ⊎ (fault ≡ Fault.NoThread)) }
 {

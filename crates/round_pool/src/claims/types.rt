@@ -1,5 +1,5 @@
 //! Rows that are claimed, and who claims them.
-ghost use Rattle.std.specs.Prelude.{◌≡◌, ℕ, suc, ◌<◌, length, [], AllPairs};
+ghost use Rattle.std.specs.Prelude.{◌≡◌, suc, ◌<◌, length, [], AllPairs};
 ghost use Rattle.round_pool.specs.Internal.ClaimTable.{IsKnown};
 
 use crate::claims::seat_view::SeatView;

@@ -1,5 +1,5 @@
 //! The conditions of the base rules.
-ghost use Rattle.std.specs.Prelude.{◌↔◌, ℕ, IsTrue, MatchOption};
+ghost use Rattle.std.specs.Prelude.{◌↔◌, IsTrue, MatchOption};
 ghost use Rattle.tso_model.specs.Rules.{BasePair};
 ghost use Rattle.tso_model.specs.Certs.{IsFirstBase};
 

@@ -1,5 +1,5 @@
 //! What is known of a campaign's seeds while their results come in.
-ghost use Rattle.std.specs.Prelude.{◌≡◌, ◌≢◌, ◌⊎◌, ◌+◌, ◌<◌, ◌≤◌, ◌^◌, ℕ, List, [], false, None, IfOk, IfErr, IfSome, MatchOption, length, get_or, map, replicate, unwrap_or};
+ghost use Rattle.std.specs.Prelude.{◌≡◌, ◌⊎◌, ◌+◌, ◌<◌, ◌≤◌, ◌^◌, ℕ, List, [], false, None, IfOk, IfErr, IfSome, MatchOption, length, get_or, map, replicate, unwrap_or};
 ghost use Rattle.tso_ops.specs.Values.{rows};
 ghost use Rattle.tso_report.specs.Internal.Gathering.{AreKnown, AreUnitsFrom, IsGathered, IsLeastMissing, KeepsSeeds};
 ghost use Rattle.text_streams.specs.declared.faults.Fault.{Fault};
@@ -130,8 +130,10 @@ impl<S: SeedUnits> Gathered<S> {
     /// What is known of all seeds, in their order. OutOfMemory where a result said so or an allocation was refused, NoThread
     /// where a result said so; else Missing with the least seed that has no verdict.
     pub(crate) fn known(self, alloc: Global) -> Result<Known, Fault>
-        ensures known { (units : List UnitValue) → length units ≡ length self.violations → AreUnitsFrom S.unit_of self.plan.first units → IfOk result (λ known. AreKnown self.plan units known.violations.items (rows known.texts.items)) }
-        ensures fault { IfErr result (λ fault. (fault ≡ Fault.OutOfMemory) ⊎ (fault ≡ Fault.NoThread) ⊎ ((i : ℕ) × IsLeastMissing self.violations i × (fault ≡ Fault.Missing (self.plan.first + i)))) }
+        ensures known { (units : List UnitValue) → length units ≡ length self.violations → AreUnitsFrom S.unit_of self.plan.first units →
+            IfOk result (λ known. AreKnown self.plan units known.violations.items (rows known.texts.items)) }
+        ensures fault { IfErr result (λ fault. (fault ≡ Fault.OutOfMemory) ⊎ (fault ≡ Fault.NoThread) ⊎
+            ((i : ℕ) × IsLeastMissing self.violations i × (fault ≡ Fault.Missing (self.plan.first + i)))) }
     {
         if self.met_out_of_memory {
             return Err(Fault::OutOfMemory);

@@ -2,7 +2,7 @@
 ghost use Rattle.std.specs.Prelude.{◌≡◌, [], Decides, IfOk};
 ghost use Rattle.unit_core.specs.Units.{UnitValue};
 ghost use Rattle.issue_desk.specs.Running.{IsRunOf};
-ghost use Rattle.tso_report.specs.Campaigns.{IsRecordOfReplay, IsRecordOfSeed, program_of_seed, program_of_seed_with_order, schedule_of_seed};
+ghost use Rattle.tso_report.specs.Campaigns.{IsRecordOfReplay, IsRecordOfSeed, program_of_seed, program_of_seed_with_order};
 ghost use Rattle.tso_report.specs.Internal.Gathering.{IsKept, IsKnown, fault_of_seed};
 
 use super::CampaignPlan;

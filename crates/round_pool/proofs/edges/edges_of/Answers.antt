@@ -1,7 +1,4 @@
-use Rattle.std.proofs.Common.{◌≡◌, ◌<◌, ◌∙◌, ℕ, List, [], length, get_or, ap, refl, sym, subst, arith}
-use Rattle.std.specs.Prelude.{Contains}
-use Rattle.std.specs.Global.{Vec}
-use Rattle.std.proofs.lemmas.List.Elements.{Contains-get_or}
+use Rattle.std.proofs.Common.{◌≡◌, ◌∙◌, length, sym, subst, arith}
 use Rattle.bitsets.specs.Rows.{IsAscending as IsAscendingRow}
 use Rattle.tso_ops.specs.Values.{rows}
 use Rattle.tso_rules.proofs.VectorFacts.{row_at}

@@ -1,5 +1,4 @@
-use Rattle.std.proofs.Common.{◌≡◌, ◌≤◌, ◌+◌, arith, subst}
-use Rattle.command_line.specs.declared.requests.RunTimesRequest.{RunTimesRequest}
+use Rattle.std.proofs.Common.{◌≡◌, arith, subst}
 use Rattle.run_serving.proofs.RepeatingFacts.{HaveRun, left_before, left_within, none_run, on_err, one_run}
 use Rattle.run_serving.proofs.repeating.repeat.Goals as goal
 

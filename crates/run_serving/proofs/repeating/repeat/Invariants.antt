@@ -1,5 +1,4 @@
 use Rattle.std.proofs.Common.{◌≤◌}
-use Rattle.command_line.specs.declared.requests.RunTimesRequest.{RunTimesRequest}
 use Rattle.run_serving.proofs.RepeatingFacts.{HaveRun}
 use Rattle.run_serving.proofs.repeating.repeat.Given as goal
 

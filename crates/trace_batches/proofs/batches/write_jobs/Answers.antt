@@ -4,7 +4,7 @@ use Rattle.std.specs.Prelude.{Result}
 use Rattle.std.proofs.lemmas.List.{take_more}
 use Rattle.text_streams.specs.declared.faults.Fault.{Fault}
 use Rattle.text_streams.specs.Streams.{AppendsPrefix}
-use Rattle.trace_batches.specs.Batches.{asked, kept_with, trace_note, trace_result_text}
+use Rattle.trace_batches.specs.Batches.{asked, trace_result_text}
 use Rattle.trace_batches.specs.declared.jobs.Job.{Job}
 use Rattle.trace_batches.specs.declared.judgments.Judgment.{Judgment}
 use Rattle.trace_batches.specs.declared.questions.BatchQuestion.{BatchQuestion}

@@ -4,5 +4,5 @@ use Rattle.trace_explanation.specs.Steps.{is_named}
 use Rattle.trace_explanation.specs.Internal.Tables.{AreMarks}
 use Rattle.trace_explanation.proofs.marks.mark_named.Given as goal
 
-abbrev pub invariant-loop-step : goal.invariant-loop-step
-invariant-loop-step l = AreMarks (is_named l.trace (take l.step-index l.steps)) (suc (event_total l.trace)) l.marks.items
+abbrev pub invariant-loop-line : goal.invariant-loop-line
+invariant-loop-line g l = AreMarks (is_named (g.N.NamesEvents.numbers l.trace) (take l.line-index l.lines)) (suc (event_total l.trace)) l.marks.items

@@ -1,4 +1,4 @@
-use Rattle.std.proofs.Common.{string_bytes, ◌∙◌}
+use Rattle.std.proofs.Common.{◌∙◌}
 use Rattle.trace_judging.proofs.EvidenceFacts.{not_refused_trace, report_of_refused, report_of_spelled}
 use Rattle.trace_judging.proofs.evidence.report_text.Goals as goal
 

@@ -1,4 +1,4 @@
-use Rattle.std.proofs.Common.{List, rules, string_bytes, ℕ}
+use Rattle.std.proofs.Common.{rules, string_bytes}
 use Rattle.trace_reports.specs.Renderings.{IsRendered, IsTextOfBytes}
 use Rattle.trace_judging.proofs.ReaderFacts.{spelled_by_all, text_of_reader}
 use Rattle.text_streams.proofs.StreamFacts.{leaves_prefix}

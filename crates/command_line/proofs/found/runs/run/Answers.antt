@@ -1,4 +1,4 @@
-use Rattle.std.proofs.Common.{◌∙◌, None, Some, ap, refl, sym}
+use Rattle.std.proofs.Common.{◌∙◌, None, Some, refl, sym}
 use Rattle.std.proofs.lemmas.Result.{IfOk-weaker}
 use Rattle.clap.specs.Words.{found_of, rows_of}
 use Rattle.command_line.proofs.FoundLemmas.{run_found}

@@ -1,4 +1,4 @@
-use Rattle.std.proofs.Common.{◌≡◌, ◌∙◌, ℕ, List, [], subst, sym}
+use Rattle.std.proofs.Common.{◌∙◌, ℕ, subst, sym}
 use Rattle.tso_ops.specs.Events.{IsUnwritten}
 use Rattle.log_text.specs.LogValues.{log_operations}
 use Rattle.log_selections.proofs.known.KnownLog.unwritten_loads.Goals as goal

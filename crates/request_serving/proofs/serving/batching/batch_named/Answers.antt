@@ -1,4 +1,3 @@
-use Rattle.std.proofs.Common.{◌≡◌, false}
 use Rattle.std.proofs.lemmas.Result.{on_err_weaker}
 use Rattle.trace_batches.proofs.WholeFacts.{end_left, ended, whatever}
 use Rattle.request_serving.proofs.BatchingFacts.{done_of, if_ok, on_ok_holds}

@@ -1,4 +1,4 @@
-use Rattle.std.proofs.Common.{◌≡◌, ◌<◌, ℕ, List, None, false, get_or, length, map, rules, subst, sym, unwrap_or}
+use Rattle.std.proofs.Common.{◌≡◌, ◌<◌, ℕ, None, false, get_or, length, map, rules, subst, sym, unwrap_or}
 use Rattle.tso_ops.specs.Values.{rows}
 use Rattle.tso_report.specs.Internal.Gathering.{AreKnown}
 use Rattle.tso_report.proofs.CampaignFacts.{gathered-all}
