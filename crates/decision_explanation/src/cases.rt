@@ -13,7 +13,7 @@ use crate::named::NamedEvents;
 use crate::reasons::reason_in_force;
 use std::alloc::{AllocError, Global};
 use std::fmt::Write;
-use trace_explanation::{list_links, model_name, order_sentences};
+use trace_explanation::{list_links, list_named, model_name, order_sentences};
 use tso_cert::CertStep;
 use tso_evidence::RefutationLine;
 use tso_ops::{Order, Trace};

@@ -5,6 +5,7 @@ mod checkers;
 mod counts;
 mod forms;
 mod rounds;
+mod runs;
 mod texts;
 mod worked;
 

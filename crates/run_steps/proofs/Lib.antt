@@ -1,0 +1,6 @@
+pub mod MemoryFacts
+pub mod PartFacts
+pub mod ReadFacts
+pub mod StoreFacts
+pub mod StateFacts
+pub mod StepFacts

@@ -1,0 +1,5 @@
+pub mod Machine
+pub mod Places
+pub mod Reads
+pub mod Widths
+pub mod Steps

@@ -1,0 +1,21 @@
+//! The store-buffer machine over bytes and locations, and which lines of a run are steps of it.
+//!
+//! `README.md` says what is proved.
+#![tactic(auto)]
+
+pub use cells::Cell;
+pub use machines::Machine;
+pub use places::Place;
+pub use processors::{Processor, Reservation, Taken, WaitingStore};
+pub use refusals::{Comparison, Origin, RunRefusal, Seen};
+pub use steps::{RunLine, RunStep};
+
+mod cells;
+pub mod laws;
+mod machines;
+mod places;
+mod processors;
+mod refusals;
+mod stepping;
+mod steps;
+mod views;

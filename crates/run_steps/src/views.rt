@@ -1,0 +1,124 @@
+//! What a processor sees of memory and of the stores that wait in its buffer.
+ghost use Rattle.std.specs.Prelude.{◌≡◌, ◌++◌, [], map, IfOk, OnOk};
+ghost use Rattle.std.specs.List.{list_any};
+ghost use Rattle.run_steps.specs.Reads.{compared, is_origin, memory_of_cells, origins_in, read_in, refusal_of, sees, value_refusals, with_origin};
+
+use crate::cells::{Cell, cell_at};
+use crate::places::Place;
+use crate::processors::{WaitingStore, newest_over};
+use crate::refusals::{Comparison, Origin, RunRefusal, Seen};
+use std::alloc::Global;
+use std::collections::HashMap;
+use tso_ops::OutOfMemory;
+
+/// Memory, and stores that wait before it.
+#[derive(Clone, Copy)]
+pub(crate) struct View<'a> {
+    pub(crate) cells: &'a HashMap<u64, Cell>,
+    pub(crate) waiting: &'a [WaitingStore],
+}
+
+impl<'a> View<'a> {
+    /// What is seen in a cell: what the newest store that waits has there, or else what memory holds. None where that isn't known.
+    fn look(&self, cell: u64) -> Option<Seen>
+        ensures { result ≡ sees (memory_of_cells self.now.cells.now) self.now.waiting.now cell }
+    {
+        if let Some(waiting) = newest_over(self.waiting, cell) {
+            let number = cell.saturating_sub(waiting.place.address);
+            return Some(Seen {
+                value: waiting.place.part(waiting.value, number),
+                origin: Origin::Waiting(waiting.store),
+            });
+        }
+        match cell_at(self.cells, cell) {
+            Cell::First(value) => Some(Seen {
+                value,
+                origin: Origin::First,
+            }),
+            Cell::Stored {
+                value,
+                store,
+                reached,
+            } => Some(Seen {
+                value,
+                origin: Origin::Reached {
+                    store,
+                    line: reached,
+                },
+            }),
+            Cell::Unknown => None,
+        }
+    }
+
+    /// The value that is read at a place. None where some of it isn't known.
+    pub(crate) fn read(&self, place: Place) -> Option<u64>
+        ensures { result ≡ read_in place (sees (memory_of_cells self.now.cells.now) self.now.waiting.now) }
+    {
+        if place.width == 0 {
+            return match self.look(place.address) {
+                Some(seen) => Some(seen.value),
+                None => None,
+            };
+        }
+        let mut value = Some(0);
+        for i in (0..place.width).rev() {
+            value = match (self.look(place.address + i), value) {
+                (Some(seen), Some(above)) => Some(seen.value % 256 + 256 * above),
+                _ => None,
+            };
+        }
+        value
+    }
+
+    /// Where the value at a place is from, each once, by ascending byte. OutOfMemory where an allocation was refused.
+    fn origins(&self, alloc: Global, place: Place) -> Result<Vec<Origin>, OutOfMemory>
+        ensures { IfOk result (λ origins. origins.items ≡ origins_in place (sees (memory_of_cells self.now.cells.now) self.now.waiting.now)) }
+    {
+        let mut origins = Vec::new(alloc);
+        for i in 0..place.cells() {
+            add_origin(&mut origins, self.look(place.address + i))?;
+        }
+        Ok(origins)
+    }
+
+    /// Compares what is read at a place with the value that a line says. OutOfMemory where an allocation was refused.
+    pub(crate) fn compare(
+        &self,
+        alloc: Global,
+        place: Place,
+        said: u64,
+        refusals: &mut Vec<RunRefusal>,
+    ) -> Result<Comparison, OutOfMemory>
+        ensures found { OnOk result (map refusal_of refusals.new.items ≡ map refusal_of refusals.old.items ++
+            value_refusals place (sees (memory_of_cells self.now.cells.now) self.now.waiting.now) said) }
+        ensures compared { IfOk result (λ comparison. comparison ≡ compared place (sees (memory_of_cells self.now.cells.now) self.now.waiting.now)) }
+    {
+        let Some(has) = self.read(place) else {
+            return Ok(Comparison::Unknown);
+        };
+        if has != said {
+            let origins = self.origins(alloc, place)?;
+            refusals.push(RunRefusal::Value { has, origins })?;
+        }
+        Ok(Comparison::Compared)
+    }
+}
+
+/// Adds the origin of what is seen, if it isn't there. OutOfMemory where an allocation was refused.
+fn add_origin(origins: &mut Vec<Origin>, seen: Option<Seen>) -> Result<(), OutOfMemory>
+    ensures { OnOk result (origins.new.items ≡ with_origin origins.old.items seen) }
+{
+    if let Some(seen) = seen {
+        if !is_among(origins, seen.origin) {
+            origins.push(seen.origin)?;
+        }
+    }
+    Ok(())
+}
+
+/// Whether an origin is one of these.
+fn is_among(origins: &[Origin], origin: Origin) -> bool
+    ensures { result ≡ list_any (λ o. is_origin o origin) origins.now }
+{
+    origins.iter().any(|other| other.is(&origin))
+}
