@@ -17,7 +17,7 @@ use Rattle.clap.specs.Walk.{Row, Text, nothing_held, row_text, rows_after}
 use Rattle.clap.specs.declared.error.kind.ErrorKind.TheVariants.{MissingRequiredArgument}
 use Rattle.command_line.specs.Given.{AreGiven, value_named}
 use Rattle.command_line.specs.Offered.{Offers, default_for, default_row, itself, parameter_text_in, several_in}
-use Rattle.command_line.specs.Parameters.{Parameter, Values, flag, id_of, other, parser_of, several, takes, takes_default, valued}
+use Rattle.command_line.specs.Parameters.{Parameter, Values, flag, id_of, other, parser_of, several, takes_default, valued}
 use Rattle.command_line.specs.Spelled.{AreWritten, Give, HaveWrongValue, LeaveOut, OptionTakes, are_whole}
 use Rattle.command_line.proofs.ParameterRows.{IsFlagRow, Outcome, defaults_pass, first_wrong, flag_text, given_in, lacks, next, one_more, option_lacks, option_text, other_lacks, rule_at, several_text}
 use Rattle.command_line.proofs.ParameterUses.{Facts, FlagUse, FlagUses, IsFlagUsed, OtherUses, apart_among, apart_here, each_apart, flag_use, flag_uses, found_here, is_used, no_uses, none_of_id, offers_of, other_uses, other_uses_are, others_apart, rest_facts, several_apart, several_row, several_uses, use_of, wrong_of}

@@ -1,5 +1,5 @@
 -- The uses that options, flags and other arguments make of the parameters with which a subcommand was offered.
-use Rattle.std.proofs.Common.{◌≡◌, ◌∙◌, inl, inr, Contains, ap, append-nil, append_assoc, arith, drop, get_or, refl, subst, sym, true≢false, zero, suc, ℕ, Bool, true, false, cond, not, ◌||◌, List, [], ◌∷◌, ◌++◌, Option, Some, None, codes, map, unwrap_or}
+use Rattle.std.proofs.Common.{◌≡◌, ◌∙◌, inl, inr, Contains, ap, append-nil, append_assoc, arith, drop, get_or, refl, subst, sym, true≢false, zero, suc, ℕ, Bool, true, false, cond, ◌||◌, List, [], ◌∷◌, ◌++◌, Option, Some, None, codes, map, unwrap_or}
 use Rattle.std.specs.Prelude.{if◌then◌else◌}
 use Rattle.std.specs.Borrow.{Bor}
 use Rattle.std.specs.List.{AllByRecursion, IsDistinct, find, list_any}

@@ -1,5 +1,5 @@
 -- The text that explains a refutation by cases.
-use Rattle.std.specs.Prelude.{ℕ, Bool, List, [], ◌∷◌, ◌++◌, codes}
+use Rattle.std.specs.Prelude.{ℕ, List, [], ◌∷◌, ◌++◌, codes}
 use Rattle.std.specs.List.{filter, flat_map}
 use Rattle.std.specs.Fmt.{decimal}
 use Rattle.tso_ops.specs.declared.settings.Order.{Order}

@@ -1,5 +1,5 @@
 -- Lemmas on how values lie in the cells of places.
-use Rattle.std.proofs.Common.{◌≡◌, ◌<◌, ◌≤◌, ◌+◌, ◌-◌, ◌/◌, ◌∙◌, refl, sym, ap, ℕ, zero, suc, List, [], ◌∷◌, get_or, length, arith}
+use Rattle.std.proofs.Common.{◌≡◌, ◌<◌, ◌≤◌, ◌-◌, ◌/◌, ◌∙◌, refl, ap, ℕ, zero, suc, get_or, arith}
 use Rattle.run_steps.specs.Places.{parts_from}
 use Rattle.run_steps.specs.Widths.{low_part}
 

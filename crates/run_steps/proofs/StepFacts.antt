@@ -1,6 +1,6 @@
 -- Lemmas on which lines are refused.
-use Rattle.std.proofs.Common.{◌≡◌, ◌≢◌, ◌<◌, ◌≤◌, ◌↔◌, ◌∙◌, ◌++◌, refl, sym, ap, subst, ℕ, suc, ◌==◌, Bool, true, false, cond, List, [], ◌∷◌, length, get_or, set, take, Option, None, Some, slice_get, unwrap_or, nat_lt, arith, ⊎_elim}
-use Rattle.std.specs.List.{AllByRecursion, find, position}
+use Rattle.std.proofs.Common.{◌≡◌, ◌≢◌, ◌<◌, ◌≤◌, ◌↔◌, ◌∙◌, ◌++◌, refl, sym, ap, subst, ℕ, suc, ◌==◌, Bool, true, false, cond, List, [], ◌∷◌, length, set, take, Option, None, Some, slice_get, unwrap_or, arith, ⊎_elim}
+use Rattle.std.specs.List.{AllByRecursion, find}
 use Rattle.std.specs.Option.{option_map_or}
 use Rattle.std.proofs.lemmas.Bool.{ltb-true}
 use Rattle.std.proofs.lemmas.Bool.Decides.{eqb_tells}
@@ -16,7 +16,7 @@ use Rattle.run_steps.specs.declared.refusals.Seen.{Seen}
 use Rattle.run_steps.specs.declared.steps.RunStep.{RunStep}
 use Rattle.run_steps.specs.declared.steps.RunStep.TheVariants.{Load, Store, Drain, Write, Swap, Reserve, StoreReserved, Membar, Stbar, Unknown, Last}
 use Rattle.run_steps.specs.Machine.{ProcessorState, MachineState, after_step, drain_refusals, drained_number, drained_refusals, emptied, idle, keeps_back, last_refusals, oldest_waiting, order_refusals, processor_in, reaching_all, reservation_refusals, step_refusals, storing, view_of, waiting_refusals, waits_of, with_reserved, with_waits}
-use Rattle.run_steps.specs.Places.{is_place, lies_in, overlaps}
+use Rattle.run_steps.specs.Places.{lies_in, overlaps}
 use Rattle.run_steps.specs.Reads.{RefusalValue, differing, no_reservation, order, origins_in, read_in, reservation, sees, value, value_refusals, waiting}
 use Rattle.run_steps.specs.Steps.{HasReserved, HasSaid, IsRead, MayDrain, MayStep, NoneWaitsAt, next_state}
 

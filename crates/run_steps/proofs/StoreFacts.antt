@@ -1,5 +1,5 @@
 -- Lemmas on processors after a store reached memory.
-use Rattle.std.proofs.Common.{◌≡◌, ◌<◌, ◌+◌, ◌==◌, ◌++◌, ◌∙◌, refl, sym, ap, ℕ, zero, suc, cond, List, [], ◌∷◌, length, get_or, set, take, drop, arith}
+use Rattle.std.proofs.Common.{◌≡◌, ◌<◌, ◌==◌, ◌++◌, ap, ℕ, zero, suc, cond, List, [], ◌∷◌, length, get_or, set, take, drop, arith}
 use Rattle.run_steps.specs.declared.places.Place.{Place}
 use Rattle.run_steps.specs.declared.processors.Taken.{Taken}
 use Rattle.run_steps.specs.Machine.{ProcessorState, processors_after, idle, without_reserved}

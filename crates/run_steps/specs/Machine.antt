@@ -1,5 +1,5 @@
 -- The store-buffer machine over bytes and locations: its states, what a line does, and why it is refused.
-use Rattle.std.specs.Prelude.{◌≡◌, ℕ, zero, suc, ◌+◌, ◌-◌, ◌==◌, ◌&&◌, ◌||◌, not, Bool, true, false, cond, nat_eq, nat_le, nat_lt, List, [], ◌∷◌, ◌++◌, map, length, set, take, replicate, Option, None, Some, get_or, slice_get, is_some, if◌then◌else◌}
+use Rattle.std.specs.Prelude.{ℕ, suc, ◌-◌, ◌==◌, ◌||◌, not, Bool, true, cond, List, [], ◌∷◌, ◌++◌, map, length, set, take, replicate, Option, None, Some, get_or, slice_get, if◌then◌else◌}
 use Rattle.std.specs.List.{find, position, remove}
 use Rattle.std.specs.Option.{option_map_or}
 use Rattle.std.specs.FinMap.{empty}

@@ -1,5 +1,5 @@
 -- Which lines are steps of the machine in a state, and where they lead: what the machine is, apart from what goes on after a refusal.
-use Rattle.std.specs.Prelude.{◌≡◌, ℕ, Bool, true, false, List, [], take, Option, None, Some, slice_get}
+use Rattle.std.specs.Prelude.{◌≡◌, ℕ, true, false, List, [], take, Option, None, Some, slice_get}
 use Rattle.std.specs.List.{AllByRecursion}
 use Rattle.std.specs.Option.{option_map_or}
 use Rattle.tso_ops.specs.declared.settings.Order.{Order}

@@ -14,7 +14,7 @@ use Rattle.std.proofs.lemmas.Option.{slice_get-get_or, slice_get_past}
 use Rattle.tso_ops.specs.Values.{TraceValue}
 use Rattle.tso_ops.specs.Events.{event_total}
 use Rattle.tso_cert.specs.declared.steps.CertStep.{CertStep}
-use Rattle.trace_explanation.specs.Steps.{is_among, is_edge, is_named, own_load, reads_past, step_numbers}
+use Rattle.trace_explanation.specs.Steps.{is_among, is_edge, is_named, own_load, reads_past}
 use Rattle.trace_explanation.proofs.SearchFacts.{found-next, found-none, FailsUpTo}
 use Rattle.trace_explanation.specs.Internal.Tables.{AreMarks, FindsNumbers, pair_cmp}
 

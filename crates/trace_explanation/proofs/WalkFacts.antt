@@ -1,5 +1,5 @@
 -- Where a walk around a cycle begins and ends: at the ends of the edge that closes it.
-use Rattle.std.proofs.Common.{◌≡◌, ⊎_elim, sym, subst, ap, refl, ◌∙◌, ℕ, zero, suc, ◌+◌, ◌-◌, ◌<◌, ◌≤◌, Bool, true, false, cond, List, [], ◌∷◌, ◌++◌, length, take, drop, get_or, Option, Some, None, slice_get, position, arith}
+use Rattle.std.proofs.Common.{◌≡◌, ⊎_elim, sym, subst, ap, refl, ◌∙◌, ℕ, zero, suc, ◌+◌, ◌<◌, ◌≤◌, Bool, true, false, cond, List, [], ◌∷◌, ◌++◌, length, take, drop, get_or, Option, Some, None, slice_get, position, arith}
 use Rattle.std.specs.Prelude.{◌==◌}
 use Rattle.std.specs.Option.{option_map, option_map_or}
 use Rattle.std.specs.List.{find}

@@ -1,14 +1,29 @@
 //! Of the memory units, replays and runs.
+ghost use Rattle.std.specs.Prelude.{◌<◌};
 
 use issue_desk::{Issuers, OpenGate, RunFault, run};
 use request_options::FaultKind;
+use run_steps::{Comparison, Machine, RunLine, RunRefusal};
 use std::alloc::{AllocError, Global};
 use std::sync::Wait;
 use std::thread::Threads;
-use tso_ops::{Act, Program};
+use tso_ops::{Act, Order, OutOfMemory, Program};
 use unit_core::{Account, MemoryUnit, Recorded, replay};
 use unit_faulty::FaultyUnit;
 use unit_kinds::StoreBufferUnit;
+
+/// `run_steps`: what the first line of a run is refused for, and whether it compares a value.
+pub fn step_first_line(
+    alloc: Global,
+    line: RunLine,
+) -> Result<(Comparison, Vec<RunRefusal>), OutOfMemory>
+    requires { line.processor < 4096 }
+{
+    let mut refusals = Vec::new(alloc);
+    let mut machine = Machine::new(alloc, Order::Tso);
+    let comparison = machine.step(alloc, line, &mut refusals)?;
+    Ok((comparison, refusals))
+}
 
 /// `unit_kinds` and `unit_core`: a replay on a unit with store buffers of eight entries.
 pub fn replay_on_store_buffers(

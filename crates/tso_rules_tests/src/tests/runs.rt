@@ -212,9 +212,8 @@ fn refusals_of(alloc: Global, run: &Run) -> Result<Option<Vec<Refused>>, OutOfMe
         machine.preset(place, value)?;
     }
     let mut found = Vec::new(alloc);
-    let mut number = 0;
-    for line in run.lines {
-        number += 1;
+    for (index, line) in run.lines.iter().enumerate() {
+        let number = (index as u64).wrapping_add(1);
         let Some(step) = step_of(line) else {
             return Ok(None);
         };

@@ -1,4 +1,4 @@
-use Rattle.std.proofs.Common.{◌∙◌, List, [], None, Some, ap, map, option_map, refl, sym, unwrap_or}
+use Rattle.std.proofs.Common.{◌∙◌, List, [], ap, map, option_map, refl, sym, unwrap_or}
 use Rattle.std.specs.Borrow.{Bor}
 use Rattle.std.specs.Prelude.{Option}
 use Rattle.std.specs.Global.{Vec}

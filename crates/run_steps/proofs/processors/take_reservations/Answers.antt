@@ -1,4 +1,4 @@
-use Rattle.std.proofs.Common.{◌≡◌, ◌<◌, ◌+◌, ◌==◌, ◌++◌, ◌∙◌, sym, ap, subst, suc, cond, length, map, get_or, set, take, drop, arith}
+use Rattle.std.proofs.Common.{◌≡◌, ◌<◌, ◌+◌, ◌==◌, ◌++◌, ◌∙◌, sym, ap, subst, suc, cond, length, map, set, take, drop, arith}
 use Rattle.std.proofs.lemmas.List.{map-set, get_or-map, length-map}
 use Rattle.run_steps.specs.Machine.{processors_after, idle, processor_state, without_reserved}
 use Rattle.run_steps.proofs.StoreFacts.{processors_after-next}

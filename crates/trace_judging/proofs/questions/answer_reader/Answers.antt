@@ -2,7 +2,6 @@ use Rattle.std.proofs.Common.{rules, string_bytes}
 use Rattle.trace_reports.specs.Renderings.{IsRendered, IsTextOfBytes}
 use Rattle.trace_judging.proofs.ReaderFacts.{spelled_by_all, text_of_reader}
 use Rattle.text_streams.proofs.StreamFacts.{leaves_prefix}
-use Rattle.trace_judging.proofs.questions.answer_reader.Given as given
 use Rattle.trace_judging.proofs.questions.answer_reader.Goals as goal
 
 -- what was rendered is rendered of what was read, and so of what the reader has

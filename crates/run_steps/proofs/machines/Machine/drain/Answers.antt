@@ -1,11 +1,11 @@
-use Rattle.std.proofs.Common.{◌≡◌, ◌∙◌, ◌<◌, Some, refl, length, set, slice_get, sym, subst, ap}
+use Rattle.std.proofs.Common.{◌≡◌, ◌∙◌, ◌<◌, Some, refl, length, slice_get, sym, subst, ap}
 use Rattle.std.specs.List.{remove}
 use Rattle.std.specs.Option.{option_map_or}
 use Rattle.std.proofs.lemmas.Option.{slice_get_read}
 use Rattle.std.proofs.lemmas.Result.{on_ok_weaker}
 use Rattle.run_steps.specs.Machine.{processor_state, reaching, state_of_machine, waits_of, with_waits}
 use Rattle.run_steps.specs.Reads.{memory_of_cells}
-use Rattle.run_steps.proofs.StateFacts.{processor_at, processor_changed, state_with}
+use Rattle.run_steps.proofs.StateFacts.{processor_at, processor_changed}
 use Rattle.run_steps.proofs.machines.Machine.drain.Goals as goal
 
 pub returns-clause-state : goal.returns-clause-state

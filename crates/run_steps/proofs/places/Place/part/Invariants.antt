@@ -1,4 +1,4 @@
-use Rattle.std.proofs.Common.{◌≡◌, ◌≤◌, ◌-◌, get_or}
+use Rattle.std.proofs.Common.{◌≡◌, ◌-◌, get_or}
 use Rattle.run_steps.specs.Places.{cell_count, parts_from, cell_parts}
 use Rattle.run_steps.proofs.places.Place.part.Given as goal
 

@@ -1,5 +1,4 @@
-use Rattle.std.proofs.Common.{◌≡◌, ◌<◌, ◌≤◌, ◌∙◌, ◌+◌, ◌-◌, ◌*◌, ◌%◌, ◌^◌, sym, ap, refl, subst, arith, suc, IfSome}
-use Rattle.run_steps.specs.Places.{cell_count}
+use Rattle.std.proofs.Common.{◌≡◌, ◌<◌, ◌∙◌, ◌+◌, ◌-◌, ◌*◌, ◌%◌, ◌^◌, sym, refl, subst, arith, suc, IfSome}
 use Rattle.run_steps.specs.Reads.{memory_of_cells, sees}
 use Rattle.run_steps.proofs.ReadFacts.{byte_below, byte_read, bytes_count, bytes_fit}
 use Rattle.run_steps.proofs.views.View.read.Goals as goal
