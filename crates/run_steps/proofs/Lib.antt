@@ -4,3 +4,4 @@ pub mod ReadFacts
 pub mod StoreFacts
 pub mod StateFacts
 pub mod StepFacts
+pub mod RunFacts

@@ -22,14 +22,14 @@ use Rattle.run_steps.specs.Steps.{HasReserved, HasSaid, IsRead, MayDrain, MaySte
 
 -- ---- lists and options
 
-cons_not : {X : Type 0} (x : X) (xs : List X) → x ∷ xs ≡ [] → ⊥
+pub cons_not : {X : Type 0} (x : X) (xs : List X) → x ∷ xs ≡ [] → ⊥
 cons_not x xs e = let none : suc (length xs) ≡ 0 = ap length e in omega (arith, none)
 
-nothing_before : {X : Type 0} (xs ys : List X) → xs ++ ys ≡ [] → (xs ≡ []) × (ys ≡ [])
+pub nothing_before : {X : Type 0} (xs ys : List X) → xs ++ ys ≡ [] → (xs ≡ []) × (ys ≡ [])
 nothing_before [] ys e = (refl, e)
 nothing_before (x ∷ xs) ys e = absurd (cons_not x (xs ++ ys) e)
 
-nothing_after : {X : Type 0} {xs ys : List X} → xs ≡ [] → ys ≡ [] → xs ++ ys ≡ []
+pub nothing_after : {X : Type 0} {xs ys : List X} → xs ≡ [] → ys ≡ [] → xs ++ ys ≡ []
 nothing_after {ys = ys} none others = ap (λ zs. zs ++ ys) none ∙ others
 
 none_found : {X : Type 0} (b : Bool) (x : X) (o : Option X) → cond b (Some x) o ≡ None → (b ≡ false) × (o ≡ None)

@@ -1,5 +1,6 @@
 pub mod Machine
 pub mod Places
 pub mod Reads
+pub mod Runs
 pub mod Widths
 pub mod Steps

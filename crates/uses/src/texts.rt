@@ -3,6 +3,8 @@
 use drawn_programs::{Shape, make_program};
 use log_text::{Log, read_log};
 use rand_core::Rng;
+use run_lines::{place_of, without_tag};
+use run_steps::Place;
 use std::alloc::Global;
 use std::io::{Read, Write};
 use text_streams::{Fault, read_all, write_text};
@@ -54,6 +56,13 @@ pub fn evidence_of_a_text(
 pub fn log_of_a_text(alloc: Global, text: &[u8]) -> Result<Log, TextFault> {
     let log = read_log(alloc, text, false)?;
     Ok(log)
+}
+
+/// `run_lines`: the place that a line is, before its tag.
+pub fn place_of_a_line(line: &[u8]) -> Option<Place> {
+    let said = without_tag(line);
+    let place = place_of(said);
+    place
 }
 
 /// `text_streams`: copies a text.

@@ -1,0 +1,2 @@
+pub mod HexadecimalFacts
+pub mod TagFacts
