@@ -41,7 +41,8 @@ impl Machine {
 
     /// Gives a place a first value. OutOfMemory where an allocation was refused.
     pub fn preset(&mut self, place: Place, value: u64) -> Result<(), OutOfMemory>
-        ensures memory { OnOk result ((state_of_machine self.new).memory ≡ filled (state_of_machine self.old).memory place.address (map (written_in First) (cell_parts place value))) }
+        ensures memory { OnOk result ((state_of_machine self.new).memory ≡ filled (state_of_machine self.old).memory place.address
+            (map (written_in First) (cell_parts place value))) }
         ensures others { (self.new.order ≡ self.old.order) × (self.new.processors ≡ self.old.processors) }
     {
         fill(&mut self.cells, place, value, Written::First)
@@ -66,7 +67,8 @@ impl Machine {
         value: u64,
     ) -> Result<(), OutOfMemory>
         requires { p < length self.old.processors.items }
-        ensures state { OnOk result (state_of_machine self.new ≡ with_processor (state_of_machine self.old) p (with_store line place value (processor_in (state_of_machine self.old) p))) }
+        ensures state { OnOk result (state_of_machine self.new ≡ with_processor (state_of_machine self.old) p
+            (with_store line place value (processor_in (state_of_machine self.old) p))) }
         ensures model { self.new.order ≡ self.old.order }
     {
         add_waiting(&mut self.processors[p], line, place, value)
@@ -125,7 +127,8 @@ impl Machine {
     /// An STBAR of processor `p`.
     pub(crate) fn separate(&mut self, line: u64, p: usize)
         requires { p < length self.old.processors.items }
-        ensures state { state_of_machine self.new ≡ with_processor (state_of_machine self.old) p (record (processor_in (state_of_machine self.old) p) { stbar = line }) }
+        ensures state { state_of_machine self.new ≡ with_processor (state_of_machine self.old) p
+            (record (processor_in (state_of_machine self.old) p) { stbar = line }) }
         ensures model { self.new.order ≡ self.old.order }
     {
         self.processors[p].stbar = line;

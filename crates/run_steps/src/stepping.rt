@@ -24,7 +24,8 @@ impl Machine {
     ) -> Result<Comparison, OutOfMemory>
         requires { line.processor < 4096 }
         ensures after { OnOk result (state_of_machine self.new ≡ state_after_line line (state_of_machine self.old)) }
-        ensures refused { OnOk result (map refusal_of refusals.new.items ≡ map refusal_of refusals.old.items ++ line_refusals self.old.order line (state_of_machine self.old)) }
+        ensures refused { OnOk result (map refusal_of refusals.new.items ≡ map refusal_of refusals.old.items ++
+            line_refusals self.old.order line (state_of_machine self.old)) }
         ensures compared { IfOk result (λ comparison. comparison ≡ line_comparison line (state_of_machine self.old)) }
         ensures model { self.new.order ≡ self.old.order }
     {
@@ -124,7 +125,8 @@ impl Machine {
         refusals: &mut Vec<RunRefusal>,
     ) -> Result<Comparison, OutOfMemory>
         requires { p < length self.now.processors.items }
-        ensures found { OnOk result (map refusal_of refusals.new.items ≡ map refusal_of refusals.old.items ++ value_refusals place (view_of (state_of_machine self.now) p) said) }
+        ensures found { OnOk result (map refusal_of refusals.new.items ≡ map refusal_of refusals.old.items ++
+            value_refusals place (view_of (state_of_machine self.now) p) said) }
         ensures compared { IfOk result (λ comparison. comparison ≡ compared place (view_of (state_of_machine self.now) p)) }
     {
         let view = View {

@@ -58,7 +58,8 @@ fn report_asked<H: Threads + Wait + Sync + AllocGlobal>(
     asked: Option<Vec<u8>>,
 ) -> Result<Report<Verdict>, Fault>
     requires { HasWorkerRange request.now.workers }
-    ensures said { IfOk result (λ report. IsWrittenOf Verdict.Refused (IsTextOfInput (rendered_as request.now.presentation) (refused_as request.now.presentation))
+    ensures said { IfOk result (λ report. IsWrittenOf Verdict.Refused
+        (IsTextOfInput (rendered_as request.now.presentation) (refused_as request.now.presentation))
         (option_map (λ text. text.items) asked) (string_bytes report.text) report.verdict) }
     ensures fault { IfErr result (λ fault. (fault ≡ Fault.OutOfMemory) ⊎ (fault ≡ Fault.NoThread)) }
 {
