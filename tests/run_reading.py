@@ -107,10 +107,10 @@ class Lines:
 
     def step(self, line, tokens):
         """Reads a line of a processor."""
-        processor = tokens.pop(0)
-        if not (DECIMAL.fullmatch(processor) or HEXADECIMAL.fullmatch(processor)):
-            raise Refused("BadLine")
-        line.processor = number_of(processor)
+        try:
+            line.processor = number_of(tokens.pop(0))
+        except Refused:
+            raise Refused("BadLine") from None
         if line.processor > MOST_PROCESSOR:
             raise Refused("BadNumber")
         line.kind = tokens.pop(0) if tokens else b""

@@ -1,2 +1,3 @@
 pub mod HexadecimalFacts
 pub mod TagFacts
+pub mod DrainFacts

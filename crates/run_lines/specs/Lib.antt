@@ -1,3 +1,5 @@
+pub mod Arguments
+pub mod Lines
 pub mod Numerals
 pub mod PlaceTexts
 pub mod Tags

@@ -1,12 +1,17 @@
-//! The parts of the lines of a run, which says its own order: numbers, places and tags.
+//! The lines of a run, which says its own order.
 //!
 //! `README.md` says what is proved.
 #![tactic(auto)]
 
+pub use arguments::{LineRefusal, Widths};
+pub use lines::{RunText, line_read};
 pub use numerals::numeral_of;
 pub use places::place_of;
 pub use tags::without_tag;
 
+mod arguments;
+mod lines;
 mod numerals;
 mod places;
+mod steps;
 mod tags;

@@ -3,8 +3,7 @@
 use drawn_programs::{Shape, make_program};
 use log_text::{Log, read_log};
 use rand_core::Rng;
-use run_lines::{place_of, without_tag};
-use run_steps::Place;
+use run_lines::{LineRefusal, RunText, Widths, line_read};
 use std::alloc::Global;
 use std::io::{Read, Write};
 use text_streams::{Fault, read_all, write_text};
@@ -58,11 +57,10 @@ pub fn log_of_a_text(alloc: Global, text: &[u8]) -> Result<Log, TextFault> {
     Ok(log)
 }
 
-/// `run_lines`: the place that a line is, before its tag.
-pub fn place_of_a_line(line: &[u8]) -> Option<Place> {
-    let said = without_tag(line);
-    let place = place_of(said);
-    place
+/// `run_lines`: what the first line of a text says.
+pub fn first_line_of_a_run(line: &[u8]) -> Result<RunText, LineRefusal> {
+    let said = line_read(Widths::Unseen, line)?;
+    Ok(said)
 }
 
 /// `text_streams`: copies a text.
