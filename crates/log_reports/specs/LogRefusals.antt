@@ -1,7 +1,7 @@
 -- What explains that a log is refused: the line of its refusal, the line of the log that decided, and the rule that it breaks.
 use Rattle.std.specs.Prelude.{◌≡◌, ℕ, List, [], ◌++◌, codes, refl}
 use Rattle.tso_text.specs.declared.faults.Why.{Why}
-use Rattle.tso_text.specs.declared.faults.Why.TheVariants.{BadHeader, BadLine, BadNumber, BeforeProc, TooManyProcessors, TooManyEvents, AddressRange, ZeroValue, RepeatedValue, MissingEnd, AfterEnd, TooLong, ProcessorRange, OutOfMemory, BadModel, InitOrder}
+use Rattle.tso_text.specs.declared.faults.Why.TheVariants.{BadHeader, BadLine, BadNumber, BeforeProc, TooManyProcessors, TooManyEvents, AddressRange, ZeroValue, RepeatedValue, MissingEnd, AfterEnd, TooLong, ProcessorRange, OutOfMemory, BadModel, InitOrder, MixedWidths, TooManyWaiting, Widths}
 use Rattle.trace_reports.specs.RefusalLines.{refusal_text}
 use Rattle.trace_reports.specs.Renderings.{RendersRefusal}
 use Rattle.trace_explanation.specs.Refusals.{numbered_line}
@@ -25,6 +25,9 @@ log_sentence MissingEnd = []
 log_sentence AfterEnd = []
 log_sentence TooLong = []
 log_sentence OutOfMemory = []
+log_sentence MixedWidths = []
+log_sentence TooManyWaiting = []
+log_sentence Widths = []
 
 -- what is said of a log that is refused at this line
 unfoldable pub log_refusal_explanation : List ℕ → ℕ → Why → List ℕ

@@ -47,6 +47,9 @@ fn log_sentence(why: Why) -> &'static str
         | Why::MissingEnd
         | Why::AfterEnd
         | Why::TooLong
+        | Why::MixedWidths
+        | Why::TooManyWaiting
+        | Why::Widths
         | Why::OutOfMemory => "",
     }
 }

@@ -5,7 +5,7 @@ use Rattle.std.specs.List.{flat_map}
 use Rattle.std.specs.Fmt.{decimal}
 use Rattle.line_text.specs.Lines.{parts_of, is_empty}
 use Rattle.tso_text.specs.declared.faults.Why.{Why}
-use Rattle.tso_text.specs.declared.faults.Why.TheVariants.{BadHeader, BadLine, BadNumber, BeforeProc, TooManyProcessors, TooManyEvents, AddressRange, ZeroValue, RepeatedValue, MissingEnd, AfterEnd, TooLong, ProcessorRange, OutOfMemory, BadModel, InitOrder}
+use Rattle.tso_text.specs.declared.faults.Why.TheVariants.{BadHeader, BadLine, BadNumber, BeforeProc, TooManyProcessors, TooManyEvents, AddressRange, ZeroValue, RepeatedValue, MissingEnd, AfterEnd, TooLong, ProcessorRange, OutOfMemory, BadModel, InitOrder, MixedWidths, TooManyWaiting, Widths}
 use Rattle.trace_explanation.specs.declared.refusal_sentences.TheConstants.{BAD_HEADER, BAD_LINE, BAD_NUMBER, BEFORE_PROC, TOO_MANY_PROCESSORS, TOO_MANY_EVENTS, ADDRESS_RANGE, ZERO_VALUE, REPEATED_VALUE, MISSING_END, AFTER_END, TOO_LONG, BAD_MODEL, INIT_ORDER}
 
 -- the rule that a text with this refusal breaks
@@ -26,6 +26,9 @@ refusal_sentence BadModel = BAD_MODEL.now
 refusal_sentence InitOrder = INIT_ORDER.now
 refusal_sentence ProcessorRange = []
 refusal_sentence OutOfMemory = []
+refusal_sentence MixedWidths = []
+refusal_sentence TooManyWaiting = []
+refusal_sentence Widths = []
 
 -- ---- the line
 

@@ -112,7 +112,7 @@ fn hex_digit(digit: u8) -> char
     }
 }
 
-/// The rule that a text with this refusal breaks. A trace's text never gets ProcessorRange, and OutOfMemory is no rule.
+/// The rule that a text with this refusal breaks. A trace's text never gets those of logs and runs, and OutOfMemory is no rule.
 #[tactic(auto, unfolding(crate::specs::Refusals::refusal_sentence))]
 fn refusal_sentence(why: Why) -> &'static str
     ensures { result.now ≡ refusal_sentence why }
@@ -132,6 +132,10 @@ fn refusal_sentence(why: Why) -> &'static str
         Why::TooLong => TOO_LONG,
         Why::BadModel => BAD_MODEL,
         Why::InitOrder => INIT_ORDER,
-        Why::ProcessorRange | Why::OutOfMemory => "",
+        Why::ProcessorRange
+        | Why::MixedWidths
+        | Why::TooManyWaiting
+        | Why::Widths
+        | Why::OutOfMemory => "",
     }
 }

@@ -2,7 +2,7 @@
 use Rattle.std.proofs.Common.{◌≡◌, ℕ, ◌<◌, ◌≤◌, List, Some, sym, ◌∙◌, ap, arith, ⊎_elim, Ok, Err, refl, ◌⊎◌, ◌-◌, [], ◌∷◌, ◌++◌, length, get_or, Option, subst, inl, inr}
 use Rattle.std.proofs.lemmas.Bool.{cases_lt}
 use Rattle.tso_text.specs.declared.faults.Why.{Why}
-use Rattle.tso_text.specs.declared.faults.Why.TheVariants.{BadHeader, BadLine, BadNumber, BeforeProc, TooManyProcessors, TooManyEvents, AddressRange, ZeroValue, RepeatedValue, MissingEnd, AfterEnd, TooLong, ProcessorRange, OutOfMemory, BadModel, InitOrder}
+use Rattle.tso_text.specs.declared.faults.Why.TheVariants.{BadHeader, BadLine, BadNumber, BeforeProc, TooManyProcessors, TooManyEvents, AddressRange, ZeroValue, RepeatedValue, MissingEnd, AfterEnd, TooLong, ProcessorRange, OutOfMemory, BadModel, InitOrder, MixedWidths, TooManyWaiting, Widths}
 use Rattle.tso_text.specs.Internal.Spelling.{Format, IsTextRefusal, preamble_of}
 use Rattle.tso_text.specs.Internal.Spelled.{SpellsLists, HasTraceLines, HasProgramLines, HasScheduleLines}
 use Rattle.std.specs.Prelude.{codes}
@@ -41,6 +41,9 @@ only_memory TooLong none = absurd (none (λ e. absurd cc))
 only_memory ProcessorRange none = absurd (none (λ e. absurd cc))
 only_memory BadModel none = absurd (none (λ e. absurd cc))
 only_memory InitOrder none = absurd (none (λ e. absurd cc))
+only_memory MixedWidths none = absurd (none (λ e. absurd cc))
+only_memory TooManyWaiting none = absurd (none (λ e. absurd cc))
+only_memory Widths none = absurd (none (λ e. absurd cc))
 
 -- never both
 pub not_both : {X : Type 0} (f : Format X) (text : List ℕ) (lists : List (List X)) (line : ℕ) (why : Why) → SpellsLists f text lists → IsTextRefusal f text line why → ⊥

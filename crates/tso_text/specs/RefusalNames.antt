@@ -1,7 +1,7 @@
 -- The names of the refusals of texts.
 use Rattle.std.specs.Prelude.{ℕ, List, codes}
 use Rattle.tso_text.specs.declared.faults.Why.{Why}
-use Rattle.tso_text.specs.declared.faults.Why.TheVariants.{BadHeader, BadLine, BadNumber, BeforeProc, TooManyProcessors, TooManyEvents, AddressRange, ZeroValue, RepeatedValue, MissingEnd, AfterEnd, TooLong, ProcessorRange, OutOfMemory, BadModel, InitOrder}
+use Rattle.tso_text.specs.declared.faults.Why.TheVariants.{BadHeader, BadLine, BadNumber, BeforeProc, TooManyProcessors, TooManyEvents, AddressRange, ZeroValue, RepeatedValue, MissingEnd, AfterEnd, TooLong, ProcessorRange, OutOfMemory, BadModel, InitOrder, MixedWidths, TooManyWaiting, Widths}
 
 -- the name of a refusal
 abbrev pub refusal_name : Why → List ℕ
@@ -21,3 +21,6 @@ refusal_name ProcessorRange = codes "ProcessorRange"
 refusal_name OutOfMemory = codes "OutOfMemory"
 refusal_name BadModel = codes "BadModel"
 refusal_name InitOrder = codes "InitOrder"
+refusal_name MixedWidths = codes "MixedWidths"
+refusal_name TooManyWaiting = codes "TooManyWaiting"
+refusal_name Widths = codes "Widths"

@@ -43,6 +43,12 @@ pub enum Why {
     BadModel,
     /// An address of an `init` line that isn't above that of the one before.
     InitOrder,
+    /// A place with a width after places without one, or the other way round.
+    MixedWidths,
+    /// A store of a processor of which 4,096 stores wait.
+    TooManyWaiting,
+    /// A place with a width, in a log.
+    Widths,
 }
 
 impl Why {
@@ -69,6 +75,9 @@ impl Why {
             Why::OutOfMemory => "OutOfMemory",
             Why::BadModel => "BadModel",
             Why::InitOrder => "InitOrder",
+            Why::MixedWidths => "MixedWidths",
+            Why::TooManyWaiting => "TooManyWaiting",
+            Why::Widths => "Widths",
         }
     }
 }

@@ -8,7 +8,7 @@ use tso_ops::{Op, Outcome, Refused, RefusedFirst, Trace, ValueFault};
 use tso_text::Why;
 
 /// Faults of texts, of certificates and of evidence, with their names.
-static TEXT_FAULTS: [(Why, &str); 16] = [
+static TEXT_FAULTS: [(Why, &str); 19] = [
     (Why::BadHeader, "BadHeader"),
     (Why::BadLine, "BadLine"),
     (Why::BadNumber, "BadNumber"),
@@ -25,6 +25,9 @@ static TEXT_FAULTS: [(Why, &str); 16] = [
     (Why::OutOfMemory, "OutOfMemory"),
     (Why::BadModel, "BadModel"),
     (Why::InitOrder, "InitOrder"),
+    (Why::MixedWidths, "MixedWidths"),
+    (Why::TooManyWaiting, "TooManyWaiting"),
+    (Why::Widths, "Widths"),
 ];
 
 static CERTIFICATE_FAULTS: [(tso_cert::CertificateRefusal, &str); 6] = [
