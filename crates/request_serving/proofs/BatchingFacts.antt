@@ -1,5 +1,5 @@
 -- Lemmas on batches.
-use Rattle.std.proofs.Common.{◌≡◌, ◌∙◌, ◌+◌, ◌<◌, ◌≤◌, ℕ, Bool, true, false, true≢false, ◌&&◌, cond, List, [], ◌∷◌, ◌++◌, Err, None, Ok, Result, Some, IfErr, IfOk, IfSome, ap, ap₂, append_assoc, arith, drop, get_or, inl, inr, is_some, length, map, option_map, refl, subst, sym, take}
+use Rattle.std.proofs.Common.{◌≡◌, ◌∙◌, ◌+◌, ◌<◌, ◌≤◌, ℕ, Bool, true, false, true≢false, ◌&&◌, cond, List, [], ◌∷◌, ◌++◌, Err, None, Ok, Result, Some, IfErr, IfOk, IfSome, ap, ap₂, append_assoc, arith, drop, get_or, inl, inr, is_some, length, option_map, refl, subst, sym, take}
 use Rattle.std.specs.Prelude.{OnErr, OnOk, Option, count_by, filter_map, is_none, not, option_to_list}
 use Rattle.std.specs.Borrow.{Bor}
 use Rattle.std.specs.List.{list_all}

@@ -3,14 +3,14 @@ use Rattle.std.proofs.Common.{◌≡◌, ◌≢◌, ◌<◌, ◌≤◌, ◌+◌,
 use Rattle.std.proofs.lemmas.Bool.Decides.{eqb_tells}
 use Rattle.std.proofs.Math.Nat.{pow-le-pow_right, pow-suc}
 use Rattle.run_steps.specs.declared.refusals.Origin.{Origin}
-use Rattle.run_steps.specs.declared.refusals.Seen.{Seen}
+use Rattle.run_steps.specs.declared.refusals.CellContent.{CellContent}
 use Rattle.run_steps.specs.declared.places.Place.{Place}
 use Rattle.run_steps.specs.Places.{cell_count}
 use Rattle.run_steps.specs.Widths.{low_part}
 use Rattle.run_steps.specs.Reads.{joined_cells, origins_from, read_from, with_origin}
 
 -- the lowest of the cells, and those above it
-read-next : (width : ℕ) (look : ℕ → Option Seen) (address count : ℕ) → 0 < count →
+read-next : (width : ℕ) (look : ℕ → Option CellContent) (address count : ℕ) → 0 < count →
     read_from width look address count ≡ joined_cells width (look address) (read_from width look (address + 1) (count - 1))
 read-next width look address zero some = absurd (omega (arith, some))
 read-next width look address (suc count) some =
@@ -22,7 +22,7 @@ low_byte width value some =
     ⊎_elim (λ (told : ((width == 0) ≡ true) × (width ≡ 0)). absurd (some told.1)) (λ (told : ((width == 0) ≡ false) × (width ≢ 0)). ap (λ b. cond b value (value % 256)) told.0) (eqb_tells width 0)
 
 -- one byte more is read, below those that are
-pub byte_read : (width : ℕ) (look : ℕ → Option Seen) (address i above : ℕ) (seen : Seen) → width ≢ 0 → 0 < i → i ≤ width → look (address + (i - 1)) ≡ Some seen →
+pub byte_read : (width : ℕ) (look : ℕ → Option CellContent) (address i above : ℕ) (seen : CellContent) → width ≢ 0 → 0 < i → i ≤ width → look (address + (i - 1)) ≡ Some seen →
     Some above ≡ read_from width look (address + i) (width - i) → Some (seen.value % 256 + 256 * above) ≡ read_from width look (address + (i - 1)) (width - (i - 1))
 byte_read width look address i above seen bytes some within at others =
     let next : address + (i - 1) + 1 ≡ address + i = omega (arith, some) in
@@ -32,7 +32,7 @@ byte_read width look address i above seen bytes some within at others =
     ∙ ap (λ n. joined_cells width (Some seen) (read_from width look n (width - (i - 1) - 1))) next ∙ ap (λ n. joined_cells width (Some seen) (read_from width look (address + i) n)) less)
 
 -- the origin of the lowest of the cells, and those of the others
-pub origins-next : (look : ℕ → Option Seen) (address count : ℕ) (found : List Origin) → 0 < count →
+pub origins-next : (look : ℕ → Option CellContent) (address count : ℕ) (found : List Origin) → 0 < count →
     origins_from look address count found ≡ origins_from look (address + 1) (count - 1) (with_origin found (look address))
 origins-next look address zero found some = absurd (omega (arith, some))
 origins-next look address (suc count) found some =

@@ -12,13 +12,13 @@ use Rattle.run_steps.specs.declared.processors.Reservation.{Reservation}
 use Rattle.run_steps.specs.declared.processors.Taken.{Taken}
 use Rattle.run_steps.specs.declared.processors.WaitingStore.{WaitingStore}
 use Rattle.run_steps.specs.declared.refusals.Origin.{Origin}
-use Rattle.run_steps.specs.declared.refusals.Seen.{Seen}
+use Rattle.run_steps.specs.declared.refusals.CellContent.{CellContent}
 use Rattle.run_steps.specs.declared.steps.RunStep.{RunStep}
 use Rattle.run_steps.specs.declared.steps.RunStep.TheVariants.{Load, Store, Drain, Write, Swap, Reserve, StoreReserved, Membar, Stbar, Unknown, Last}
-use Rattle.run_steps.specs.Machine.{ProcessorState, MachineState, after_step, drain_refusals, drained_number, drained_refusals, emptied, idle, keeps_back, last_refusals, oldest_waiting, order_refusals, processor_in, reaching_all, reservation_refusals, step_refusals, storing, view_of, waiting_refusals, waits_of, with_reserved, with_waits}
+use Rattle.run_steps.specs.Machine.{ProcessorState, MachineState, after_step, drain_refusals, drained_number, drained_refusals, emptied, idle, keeps_back, last_refusals, next_state, oldest_waiting, order_refusals, processor_in, reaching_all, reservation_refusals, step_refusals, storing, view_of, waiting_refusals, waits_of, with_reserved, with_waits}
 use Rattle.run_steps.specs.Places.{lies_in, overlaps}
 use Rattle.run_steps.specs.Reads.{RefusalValue, differing, no_reservation, order, origins_in, read_in, reservation, sees, value, value_refusals, waiting}
-use Rattle.run_steps.specs.Steps.{HasReserved, HasSaid, IsRead, MayDrain, MayStep, NoneWaitsAt, next_state}
+use Rattle.run_steps.specs.Steps.{HasReserved, HasSaid, IsRead, MayDrain, MayStep, NoneWaitsAt}
 
 -- ---- lists and options
 
@@ -66,7 +66,7 @@ value_told None origins said = (λ e has is. absurd (none-some has is), λ all. 
 value_told (Some has) origins said =
     (λ e other is. subst (λ n. n ≡ said) (ap (λ o. unwrap_or o 0) is) ((differs has said (value has origins)).0 e), λ all. (differs has said (value has origins)).1 (all has refl))
 
-value_exactly : (place : Place) (look : ℕ → Option Seen) (said : ℕ) → (value_refusals place look said ≡ []) ↔ IsRead place look said
+value_exactly : (place : Place) (look : ℕ → Option CellContent) (said : ℕ) → (value_refusals place look said ≡ []) ↔ IsRead place look said
 value_exactly place look said = value_told (read_in place look) (origins_in place look) said
 
 -- ---- stores that wait

@@ -1,8 +1,8 @@
 -- The store-buffer machine over bytes and locations: its states, what a line does, and why it is refused.
-use Rattle.std.specs.Prelude.{ℕ, suc, ◌-◌, ◌==◌, ◌||◌, not, Bool, true, cond, List, [], ◌∷◌, ◌++◌, map, length, set, take, replicate, Option, None, Some, get_or, slice_get, if◌then◌else◌}
+use Rattle.std.specs.Prelude.{ℕ, suc, ◌-◌, ◌==◌, ◌||◌, not, Bool, true, false, cond, List, [], ◌∷◌, ◌++◌, map, length, set, take, replicate, Option, None, Some, get_or, option_map, slice_get, unwrap_or, if◌then◌else◌}
 use Rattle.std.specs.List.{find, position, remove}
 use Rattle.std.specs.Option.{option_map_or}
-use Rattle.std.specs.FinMap.{empty}
+use Rattle.run_steps.specs.declared.cells.Cell.TheVariants.{First}
 use Rattle.tso_ops.specs.declared.settings.Order.{Order}
 use Rattle.tso_ops.specs.declared.settings.Order.TheVariants.{Tso, Pso}
 use Rattle.run_steps.specs.declared.places.Place.{Place}
@@ -15,7 +15,7 @@ use Rattle.run_steps.specs.declared.processors.WaitingStore.{WaitingStore}
 use Rattle.run_steps.specs.declared.refusals.Comparison.{Comparison}
 use Rattle.run_steps.specs.declared.refusals.Comparison.TheVariants as comparison
 use Rattle.run_steps.specs.declared.refusals.Origin.TheVariants as origin
-use Rattle.run_steps.specs.declared.refusals.Seen.{Seen}
+use Rattle.run_steps.specs.declared.refusals.CellContent.{CellContent}
 use Rattle.run_steps.specs.declared.steps.RunLine.{RunLine}
 use Rattle.run_steps.specs.declared.steps.RunStep.{RunStep}
 use Rattle.run_steps.specs.declared.steps.RunStep.TheVariants.{Load, Store, Drain, Write, Swap, Reserve, StoreReserved, Membar, Stbar, Unknown, Last}
@@ -38,6 +38,10 @@ pub record MachineState : Type 0 where
 abbrev pub processor_state : Processor → ProcessorState
 processor_state p = record { waits = p.waiting.items; stbar = p.stbar; reserved = p.reservation }
 
+-- the memory model of a machine
+abbrev pub model_of : Machine → Order
+model_of machine = machine.order
+
 -- what a machine has
 abbrev pub state_of_machine : Machine → MachineState
 state_of_machine machine = record { memory = memory_of_cells machine.cells; processors = map processor_state machine.processors.items }
@@ -48,7 +52,7 @@ idle = record { waits = []; stbar = 0; reserved = None }
 
 -- the state before the first line
 abbrev pub beginning_state : MachineState
-beginning_state = record { memory = empty; processors = [] }
+beginning_state = record { memory = λ address. First 0; processors = [] }
 
 abbrev pub processor_in : MachineState → ℕ → ProcessorState
 processor_in s p = get_or s.processors p idle
@@ -58,7 +62,7 @@ abbrev pub waits_of : MachineState → ℕ → List WaitingStore
 waits_of s p = (processor_in s p).waits
 
 -- what processor p sees in a cell
-abbrev pub view_of : MachineState → ℕ → ℕ → Option Seen
+abbrev pub view_of : MachineState → ℕ → ℕ → Option CellContent
 view_of s p = sees s.memory (waits_of s p)
 
 -- the state, with a place for processor p
@@ -78,10 +82,10 @@ with_reserved s p reserved = with_processor s p (record (processor_in s p) { res
 
 -- A reservation is lost by the first store of another processor that reaches one of its bytes.
 abbrev pub losing : Place → Taken → Reservation → Reservation
-losing place by r = if overlaps r.place place then record r { taken = Some (option_map_or (λ first. first) r.taken by) } else r
+losing place by r = if overlaps r.place place then record r { taken = Some (unwrap_or r.taken by) } else r
 
 abbrev pub without_reserved : Place → Taken → ProcessorState → ProcessorState
-without_reserved place by x = record x { reserved = option_map_or (λ r. Some (losing place by r)) x.reserved None }
+without_reserved place by x = record x { reserved = option_map (losing place by) x.reserved }
 
 -- the processors from number q on, after a store of processor p reached memory
 abbrev pub processors_after : ℕ → Place → Taken → ℕ → List ProcessorState → List ProcessorState
@@ -135,19 +139,38 @@ storing line p place v s = reaching line p (record { store = line; place = place
 abbrev pub forgetting : Place → MachineState → MachineState
 forgetting place s = record s { memory = filled s.memory place.address (map (written_in written.Unknown) (cell_parts place 0)) }
 
+-- the state after a step that the machine may take
+abbrev pub next_state : ℕ → ℕ → RunStep → MachineState → MachineState
+next_state line p (Load place v) s = s
+next_state line p (Store place v) s = with_processor s p (with_store line place v (processor_in s p))
+next_state line p (Drain at v) s = option_map_or (λ k. draining line p k s) (drained_number at (waits_of s p)) s
+next_state line p (Write place v) s = storing line p place v s
+next_state line p (Swap place r v) s = storing line p place v s
+next_state line p (Reserve place v) s = with_reserved s p (Some (record { place = place; taken = None }))
+next_state line p (StoreReserved place v) s = with_reserved (storing line p place v s) p None
+next_state line p Membar s = s
+next_state line p Stbar s = with_processor s p (record (processor_in s p) { stbar = line })
+next_state line p (Unknown place) s = forgetting place s
+next_state line p (Last place v) s = s
+
+-- A swap, a store that reaches memory at once and a MEMBAR complete while no store of their processor waits (SPARC V8 manual, chapter 6 and appendix K;
+-- SPARC V9 manual, appendix D).
+abbrev pub needs_empty : RunStep → Bool
+needs_empty (Load place v) = false
+needs_empty (Store place v) = false
+needs_empty (Drain at v) = false
+needs_empty (Write place v) = true
+needs_empty (Swap place r v) = true
+needs_empty (Reserve place v) = false
+needs_empty (StoreReserved place v) = true
+needs_empty Membar = true
+needs_empty Stbar = false
+needs_empty (Unknown place) = false
+needs_empty (Last place v) = false
+
 -- The state after a line of processor p, which has a place in it. What is refused goes on: stores that should have reached memory do.
 abbrev pub after_step : ℕ → ℕ → RunStep → MachineState → MachineState
-after_step line p (Load place v) s = s
-after_step line p (Store place v) s = with_processor s p (with_store line place v (processor_in s p))
-after_step line p (Drain at v) s = option_map_or (λ k. draining line p k s) (drained_number at (waits_of s p)) s
-after_step line p (Write place v) s = storing line p place v (emptied line p s)
-after_step line p (Swap place r v) s = storing line p place v (emptied line p s)
-after_step line p (Reserve place v) s = with_reserved s p (Some (record { place = place; taken = None }))
-after_step line p (StoreReserved place v) s = with_reserved (storing line p place v (emptied line p s)) p None
-after_step line p Membar s = emptied line p s
-after_step line p Stbar s = with_processor s p (record (processor_in s p) { stbar = line })
-after_step line p (Unknown place) s = forgetting place s
-after_step line p (Last place v) s = s
+after_step line p step s = next_state line p step (if needs_empty step then emptied line p s else s)
 
 -- the same of any processor
 abbrev pub state_after_line : RunLine → MachineState → MachineState

@@ -1,9 +1,8 @@
 -- What memory holds, and what a processor sees of it.
 use Rattle.std.specs.Prelude.{ℕ, zero, suc, ◌+◌, ◌-◌, ◌*◌, ◌==◌, ◌&&◌, Bool, true, false, nat_eq, cond, List, [], ◌∷◌, ◌++◌, Option, None, Some, get_or, unwrap_or, if◌then◌else◌}
 use Rattle.std.specs.List.{list_any}
-use Rattle.std.specs.Ordering.{nat_cmp}
 use Rattle.std.specs.HashMap.{HashMap}
-use Rattle.std.specs.FinMap.{FinMap, from_entries, get, insert}
+use Rattle.std.specs.Map.{lookup}
 use Rattle.run_steps.specs.declared.places.Place.{Place}
 use Rattle.run_steps.specs.declared.cells.Cell.{Cell}
 use Rattle.run_steps.specs.declared.cells.Cell.TheVariants.{First, Stored, Unknown}
@@ -16,27 +15,28 @@ use Rattle.run_steps.specs.declared.refusals.Origin.{Origin}
 use Rattle.run_steps.specs.declared.refusals.Origin.TheVariants as origin
 use Rattle.run_steps.specs.declared.refusals.RunRefusal.{RunRefusal}
 use Rattle.run_steps.specs.declared.refusals.RunRefusal.TheVariants as refusal
-use Rattle.run_steps.specs.declared.refusals.Seen.{Seen}
+use Rattle.run_steps.specs.declared.refusals.CellContent.{CellContent}
 use Rattle.run_steps.specs.Places.{cell_count, covers, cell_parts}
 use Rattle.run_steps.specs.Widths.{low_part}
 
 -- ---- memory
 
--- what memory holds by address, where something was written
+-- what memory holds by address
 abbrev pub Memory : Type 0
-Memory = FinMap nat_cmp Cell
+Memory = ℕ → Cell
 
+-- what the map has by address: the first value 0, where it has nothing
 abbrev pub memory_of_cells : {S : Type 0} → HashMap ℕ Cell S → Memory
-memory_of_cells cells = from_entries cells.entries
+memory_of_cells cells address = unwrap_or (lookup (nat_eq address) cells.entries) (First 0)
 
--- what it holds at an address: 0 at first
-abbrev pub cell_in : Memory → ℕ → Cell
-cell_in memory address = unwrap_or (get memory address) (First 0)
+-- memory with another cell at an address
+abbrev pub with_cell : Memory → ℕ → Cell → Memory
+with_cell memory address cell other = cond (nat_eq address other) cell (memory other)
 
 -- memory after these are written into the cells from an address on
 abbrev pub filled : Memory → ℕ → List Cell → Memory
 filled memory address [] = memory
-filled memory address (cell ∷ cells) = filled (insert memory address cell) (address + 1) cells
+filled memory address (cell ∷ cells) = filled (with_cell memory address cell) (address + 1) cells
 
 -- what is in a cell, where this part of a value is written into it
 abbrev pub written_in : Written → ℕ → Cell
@@ -52,38 +52,38 @@ newest_over [] cell other = other
 newest_over (w ∷ waiting) cell other = newest_over waiting cell (cond (covers w.place cell) (Some w) other)
 
 -- what is seen of a cell of memory
-abbrev pub seen_in : Cell → Option Seen
+abbrev pub seen_in : Cell → Option CellContent
 seen_in (First value) = Some (record { value = value; origin = origin.First })
 seen_in (Stored value store reached) = Some (record { value = value; origin = origin.Reached store reached })
 seen_in Unknown = None
 
 -- what the store has in the cell
-abbrev pub seen_of : WaitingStore → ℕ → Seen
+abbrev pub seen_of : WaitingStore → ℕ → CellContent
 seen_of w cell = record { value = get_or (cell_parts w.place w.value) (cell - w.place.address) 0; origin = origin.Waiting w.store }
 
-abbrev pub seen_before : Memory → ℕ → Option WaitingStore → Option Seen
-seen_before memory cell None = seen_in (cell_in memory cell)
+abbrev pub seen_before : Memory → ℕ → Option WaitingStore → Option CellContent
+seen_before memory cell None = seen_in (memory cell)
 seen_before memory cell (Some w) = Some (seen_of w cell)
 
 -- What is seen in the cell by whose stores wait: what the newest of them that has it leaves there, or else what memory holds; nothing where that isn't known.
-abbrev pub sees : Memory → List WaitingStore → ℕ → Option Seen
+abbrev pub sees : Memory → List WaitingStore → ℕ → Option CellContent
 sees memory waiting cell = seen_before memory cell (newest_over waiting cell None)
 
 -- ---- what is read
 
 -- the value of a cell of a place of this width, and of those above it
-abbrev pub joined_cells : ℕ → Option Seen → Option ℕ → Option ℕ
+abbrev pub joined_cells : ℕ → Option CellContent → Option ℕ → Option ℕ
 joined_cells width None above = None
 joined_cells width (Some seen) None = None
 joined_cells width (Some seen) (Some above) = Some (low_part width seen.value + 256 * above)
 
 -- the value of so many cells from an address on
-abbrev pub read_from : ℕ → (ℕ → Option Seen) → ℕ → ℕ → Option ℕ
+abbrev pub read_from : ℕ → (ℕ → Option CellContent) → ℕ → ℕ → Option ℕ
 read_from width look address zero = Some 0
 read_from width look address (suc count) = joined_cells width (look address) (read_from width look (address + 1) count)
 
 -- the value that is read at the place; nothing where some of it isn't known
-abbrev pub read_in : Place → (ℕ → Option Seen) → Option ℕ
+abbrev pub read_in : Place → (ℕ → Option CellContent) → Option ℕ
 read_in place look = read_from place.width look place.address (cell_count place)
 
 -- the two are one origin
@@ -99,17 +99,17 @@ is_origin (origin.Reached n k) origin.First = false
 is_origin (origin.Reached n k) (origin.Waiting m) = false
 
 -- these, and another that isn't among them
-abbrev pub with_origin : List Origin → Option Seen → List Origin
+abbrev pub with_origin : List Origin → Option CellContent → List Origin
 with_origin found None = found
 with_origin found (Some seen) = if list_any (λ o. is_origin o seen.origin) found then found else found ++ seen.origin ∷ []
 
 -- these, and those of so many cells from an address on, each once
-abbrev pub origins_from : (ℕ → Option Seen) → ℕ → ℕ → List Origin → List Origin
+abbrev pub origins_from : (ℕ → Option CellContent) → ℕ → ℕ → List Origin → List Origin
 origins_from look address zero found = found
 origins_from look address (suc count) found = origins_from look (address + 1) count (with_origin found (look address))
 
 -- where the value at the place is from, each once, by ascending byte
-abbrev pub origins_in : Place → (ℕ → Option Seen) → List Origin
+abbrev pub origins_in : Place → (ℕ → Option CellContent) → List Origin
 origins_in place look = origins_from look place.address (cell_count place) []
 
 -- ---- refusals
@@ -136,7 +136,7 @@ differing None origins said = []
 differing (Some has) origins said = if has == said then [] else value has origins ∷ []
 
 -- A line that says this value of the place is refused where another is read; not where that isn't known.
-abbrev pub value_refusals : Place → (ℕ → Option Seen) → ℕ → List RefusalValue
+abbrev pub value_refusals : Place → (ℕ → Option CellContent) → ℕ → List RefusalValue
 value_refusals place look said = differing (read_in place look) (origins_in place look) said
 
 abbrev pub compared_by : Option ℕ → Comparison
@@ -144,5 +144,5 @@ compared_by None = comparison.Unknown
 compared_by (Some has) = comparison.Compared
 
 -- whether what is read at the place is known
-abbrev pub compared : Place → (ℕ → Option Seen) → Comparison
+abbrev pub compared : Place → (ℕ → Option CellContent) → Comparison
 compared place look = compared_by (read_in place look)

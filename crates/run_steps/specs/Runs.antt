@@ -2,9 +2,9 @@
 use Rattle.std.specs.Prelude.{◌≡◌, ℕ, List, [], ◌∷◌, ◌++◌, map}
 use Rattle.tso_ops.specs.declared.settings.Order.{Order}
 use Rattle.run_steps.specs.declared.steps.RunLine.{RunLine}
-use Rattle.run_steps.specs.Machine.{MachineState, admitted, line_refusals, state_after_line}
+use Rattle.run_steps.specs.Machine.{MachineState, admitted, line_refusals, next_state, state_after_line}
 use Rattle.run_steps.specs.Reads.{RefusalValue}
-use Rattle.run_steps.specs.Steps.{MayStep, next_state}
+use Rattle.run_steps.specs.Steps.{MayStep}
 
 -- The lines are steps of the machine from this state on, one after the other.
 abbrev pub HoldsFrom : Order → MachineState → List RunLine → Type 0

@@ -1,20 +1,19 @@
 -- Which lines are steps of the machine in a state, and where they lead: what the machine is, apart from what goes on after a refusal.
 use Rattle.std.specs.Prelude.{◌≡◌, ℕ, true, false, List, [], take, Option, None, Some, slice_get}
 use Rattle.std.specs.List.{AllByRecursion}
-use Rattle.std.specs.Option.{option_map_or}
 use Rattle.tso_ops.specs.declared.settings.Order.{Order}
 use Rattle.run_steps.specs.declared.places.Place.{Place}
 use Rattle.run_steps.specs.declared.processors.Reservation.{Reservation}
 use Rattle.run_steps.specs.declared.processors.WaitingStore.{WaitingStore}
-use Rattle.run_steps.specs.declared.refusals.Seen.{Seen}
+use Rattle.run_steps.specs.declared.refusals.CellContent.{CellContent}
 use Rattle.run_steps.specs.declared.steps.RunStep.{RunStep}
 use Rattle.run_steps.specs.declared.steps.RunStep.TheVariants.{Load, Store, Drain, Write, Swap, Reserve, StoreReserved, Membar, Stbar, Unknown, Last}
-use Rattle.run_steps.specs.Machine.{ProcessorState, MachineState, draining, drained_number, forgetting, keeps_back, processor_in, storing, view_of, waits_of, with_processor, with_reserved, with_store}
+use Rattle.run_steps.specs.Machine.{ProcessorState, MachineState, drained_number, keeps_back, processor_in, view_of, waits_of}
 use Rattle.run_steps.specs.Places.{lies_in, overlaps}
 use Rattle.run_steps.specs.Reads.{read_in, sees}
 
 -- the value is what is seen at the place, where that is known
-abbrev pub IsRead : Place → (ℕ → Option Seen) → ℕ → Type 0
+abbrev pub IsRead : Place → (ℕ → Option CellContent) → ℕ → Type 0
 IsRead place look v = (has : ℕ) → read_in place look ≡ Some has → has ≡ v
 
 -- the store has the value that is said, if one is
@@ -56,17 +55,3 @@ MayStep model p Membar s = waits_of s p ≡ []
 MayStep model p Stbar s = Unit {0}
 MayStep model p (Unknown place) s = Unit {0}
 MayStep model p (Last place v) s = NoneWaitsAt place s.processors × IsRead place (sees s.memory []) v
-
--- the state after a step that the machine may take
-abbrev pub next_state : ℕ → ℕ → RunStep → MachineState → MachineState
-next_state line p (Load place v) s = s
-next_state line p (Store place v) s = with_processor s p (with_store line place v (processor_in s p))
-next_state line p (Drain at v) s = option_map_or (λ k. draining line p k s) (drained_number at (waits_of s p)) s
-next_state line p (Write place v) s = storing line p place v s
-next_state line p (Swap place r v) s = storing line p place v s
-next_state line p (Reserve place v) s = with_reserved s p (Some (record { place = place; taken = None }))
-next_state line p (StoreReserved place v) s = with_reserved (storing line p place v s) p None
-next_state line p Membar s = s
-next_state line p Stbar s = with_processor s p (record (processor_in s p) { stbar = line })
-next_state line p (Unknown place) s = forgetting place s
-next_state line p (Last place v) s = s

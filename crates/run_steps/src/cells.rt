@@ -1,8 +1,7 @@
 //! What memory holds.
 ghost use Rattle.std.specs.Prelude.{◌≡◌, OnOk};
-ghost use Rattle.std.specs.FinMap.{insert};
 ghost use Rattle.run_steps.specs.Places.{cell_parts};
-ghost use Rattle.run_steps.specs.Reads.{cell_in, filled, memory_of_cells, written_in};
+ghost use Rattle.run_steps.specs.Reads.{filled, memory_of_cells, with_cell, written_in};
 ghost use Rattle.std.specs.Prelude.{map};
 
 use crate::places::{Place, low_part};
@@ -39,7 +38,7 @@ pub(crate) enum Written {
 
 /// What memory holds at an address: 0, where nothing was written.
 pub(crate) fn cell_at(cells: &HashMap<u64, Cell>, address: u64) -> Cell
-    ensures { result ≡ cell_in (memory_of_cells cells.now) address }
+    ensures { result ≡ memory_of_cells cells.now address }
 {
     cells.get(&address).copied().unwrap_or(Cell::First(0))
 }
@@ -82,7 +81,7 @@ fn cell_of(written: Written, part: u64) -> Cell
 
 /// Writes one cell. OutOfMemory where an allocation was refused.
 fn put(cells: &mut HashMap<u64, Cell>, address: u64, cell: Cell) -> Result<(), OutOfMemory>
-    ensures { OnOk result (memory_of_cells cells.new ≡ insert (memory_of_cells cells.old) address cell) }
+    ensures { OnOk result (memory_of_cells cells.new ≡ with_cell (memory_of_cells cells.old) address cell) }
 {
     match cells.insert(address, cell) {
         Ok(_) => Ok(()),

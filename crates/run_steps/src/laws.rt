@@ -3,10 +3,10 @@ ghost use Rattle.std.specs.Prelude.{◌≡◌, ◌↔◌, [], ◌∷◌, List, �
 ghost use Rattle.tso_ops.specs.declared.settings.Order.{Order};
 ghost use Rattle.run_steps.specs.declared.steps.RunLine.{RunLine};
 ghost use Rattle.run_steps.specs.declared.steps.RunStep.{RunStep};
-ghost use Rattle.run_steps.specs.Machine.{MachineState, after_step, step_refusals};
+ghost use Rattle.run_steps.specs.Machine.{MachineState, after_step, next_state, step_refusals};
 ghost use Rattle.run_steps.specs.Reads.{RefusalValue};
 ghost use Rattle.run_steps.specs.Runs.{HoldsFrom, IsFirstRefused, refusals_from};
-ghost use Rattle.run_steps.specs.Steps.{MayStep, next_state};
+ghost use Rattle.run_steps.specs.Steps.{MayStep};
 
 /// A line is refused exactly where the machine may not take its step, and a step that it may take leads where the machine goes.
 pub fn steps_are_never_refused()

@@ -7,7 +7,7 @@ pub use cells::Cell;
 pub use machines::Machine;
 pub use places::Place;
 pub use processors::{Processor, Reservation, Taken, WaitingStore};
-pub use refusals::{Comparison, Origin, RunRefusal, Seen};
+pub use refusals::{CellContent, Comparison, Origin, RunRefusal};
 pub use steps::{RunLine, RunStep};
 
 mod cells;

@@ -17,20 +17,20 @@ use tso_ops::{Order, OutOfMemory};
 /// The machine of a memory model: memory, byte by byte or location by location, and the stores that wait before it.
 #[derive(Drop)]
 pub struct Machine {
-    pub order: Order,
+    pub(crate) order: Order,
     /// What memory holds, where something was written.
-    pub cells: HashMap<u64, Cell>,
+    pub(crate) cells: HashMap<u64, Cell>,
     /// What there is of processors 0, 1, ..
-    pub processors: Vec<Processor>,
+    pub(crate) processors: Vec<Processor>,
 }
 
 impl Machine {
-    ghost use Rattle.run_steps.specs.Machine.{admitted, state_after_line, beginning_state, draining, emptied, forgetting, processor_in, reaching, state_of_machine, storing, waits_of, with_processor, with_reserved, with_store};
+    ghost use Rattle.run_steps.specs.Machine.{admitted, state_after_line, beginning_state, draining, emptied, forgetting, model_of, processor_in, reaching, state_of_machine, storing, waits_of, with_processor, with_reserved, with_store};
 
     /// A machine before the first line of a run: memory holds 0.
     pub fn new(alloc: Global, order: Order) -> Machine
         ensures begins { state_of_machine result ≡ beginning_state }
-        ensures model { result.order ≡ order }
+        ensures model { model_of result ≡ order }
     {
         Machine {
             order,
@@ -43,7 +43,7 @@ impl Machine {
     pub fn preset(&mut self, place: Place, value: u64) -> Result<(), OutOfMemory>
         ensures memory { OnOk result ((state_of_machine self.new).memory ≡ filled (state_of_machine self.old).memory place.address
             (map (written_in First) (cell_parts place value))) }
-        ensures others { (self.new.order ≡ self.old.order) × (self.new.processors ≡ self.old.processors) }
+        ensures others { (model_of self.new ≡ model_of self.old) × ((state_of_machine self.new).processors ≡ (state_of_machine self.old).processors) }
     {
         fill(&mut self.cells, place, value, Written::First)
     }
@@ -53,7 +53,7 @@ impl Machine {
         requires { p < 4096 }
         ensures state { OnOk result (state_of_machine self.new ≡ admitted p (state_of_machine self.old)) }
         ensures there { OnOk result (p < length self.new.processors.items) }
-        ensures model { self.new.order ≡ self.old.order }
+        ensures model { model_of self.new ≡ model_of self.old }
     {
         grow(alloc, &mut self.processors, p)
     }
@@ -69,7 +69,7 @@ impl Machine {
         requires { p < length self.old.processors.items }
         ensures state { OnOk result (state_of_machine self.new ≡ with_processor (state_of_machine self.old) p
             (with_store line place value (processor_in (state_of_machine self.old) p))) }
-        ensures model { self.new.order ≡ self.old.order }
+        ensures model { model_of self.new ≡ model_of self.old }
     {
         add_waiting(&mut self.processors[p], line, place, value)
     }
@@ -78,7 +78,7 @@ impl Machine {
     fn reach(&mut self, line: u64, p: usize, store: WaitingStore) -> Result<(), OutOfMemory>
         ensures state { OnOk result (state_of_machine self.new ≡ reaching line p store (state_of_machine self.old)) }
         ensures kept { length self.new.processors.items ≡ length self.old.processors.items }
-        ensures model { self.new.order ≡ self.old.order }
+        ensures model { model_of self.new ≡ model_of self.old }
     {
         let written = Written::Stored {
             store: store.store,
@@ -103,7 +103,7 @@ impl Machine {
         requires { p < length self.old.processors.items }
         ensures state { OnOk result (state_of_machine self.new ≡ emptied line p (state_of_machine self.old)) }
         ensures kept { length self.new.processors.items ≡ length self.old.processors.items }
-        ensures model { self.new.order ≡ self.old.order }
+        ensures model { model_of self.new ≡ model_of self.old }
     {
         if self.processors[p].waiting.is_empty() {
             return Ok(());
@@ -119,7 +119,7 @@ impl Machine {
     pub(crate) fn reserve(&mut self, p: usize, reservation: Option<Reservation>)
         requires { p < length self.old.processors.items }
         ensures state { state_of_machine self.new ≡ with_reserved (state_of_machine self.old) p reservation }
-        ensures model { self.new.order ≡ self.old.order }
+        ensures model { model_of self.new ≡ model_of self.old }
     {
         self.processors[p].reservation = reservation;
     }
@@ -129,7 +129,7 @@ impl Machine {
         requires { p < length self.old.processors.items }
         ensures state { state_of_machine self.new ≡ with_processor (state_of_machine self.old) p
             (record (processor_in (state_of_machine self.old) p) { stbar = line }) }
-        ensures model { self.new.order ≡ self.old.order }
+        ensures model { model_of self.new ≡ model_of self.old }
     {
         self.processors[p].stbar = line;
     }
@@ -137,7 +137,7 @@ impl Machine {
     /// Something else changes a place. OutOfMemory where an allocation was refused.
     pub(crate) fn forget(&mut self, place: Place) -> Result<(), OutOfMemory>
         ensures state { OnOk result (state_of_machine self.new ≡ forgetting place (state_of_machine self.old)) }
-        ensures model { self.new.order ≡ self.old.order }
+        ensures model { model_of self.new ≡ model_of self.old }
     {
         fill(&mut self.cells, place, 0, Written::Unknown)
     }
@@ -155,7 +155,7 @@ impl Machine {
         requires { p < length self.old.processors.items }
         ensures state { OnOk result (state_of_machine self.new ≡ storing line p place value (emptied line p (state_of_machine self.old))) }
         ensures kept { length self.new.processors.items ≡ length self.old.processors.items }
-        ensures model { self.new.order ≡ self.old.order }
+        ensures model { model_of self.new ≡ model_of self.old }
     {
         self.empty_buffer(alloc, line, p)?;
         self.store_at(line, p, place, value)
@@ -171,7 +171,7 @@ impl Machine {
     ) -> Result<(), OutOfMemory>
         ensures state { OnOk result (state_of_machine self.new ≡ storing line p place value (state_of_machine self.old)) }
         ensures kept { length self.new.processors.items ≡ length self.old.processors.items }
-        ensures model { self.new.order ≡ self.old.order }
+        ensures model { model_of self.new ≡ model_of self.old }
     {
         let store = WaitingStore {
             store: line,
@@ -187,7 +187,7 @@ impl Machine {
         requires admitted { p < length self.old.processors.items }
         requires waits { number < length (waits_of (state_of_machine self.old) p) }
         ensures state { OnOk result (state_of_machine self.new ≡ draining line p number (state_of_machine self.old)) }
-        ensures model { self.new.order ≡ self.old.order }
+        ensures model { model_of self.new ≡ model_of self.old }
     {
         let store = self.processors[p].waiting.remove(number);
         self.reach(line, p, store)

@@ -14,7 +14,9 @@ use tso_ops::{Order, OutOfMemory};
 pub struct WaitingStore {
     /// The number of its line.
     pub store: u64,
+    /// The bytes or the location that it is of.
     pub place: Place,
+    /// Its value.
     pub value: u64,
     /// The number of the line of the processor's last STBAR before it; 0 for none.
     pub stbar: u64,
@@ -32,6 +34,7 @@ pub struct Taken {
 /// What a load has reserved, for a store on that reservation.
 #[derive(Clone, Copy, Debug, PartialEq, Eq)]
 pub struct Reservation {
+    /// The bytes or the location that is reserved.
     pub place: Place,
     /// The first store by which the reservation was lost.
     pub taken: Option<Taken>,
@@ -44,6 +47,7 @@ pub struct Processor {
     pub waiting: Vec<WaitingStore>,
     /// The number of the line of its last STBAR; 0 for none.
     pub stbar: u64,
+    /// What its last `lr` reserved, until its `sc`.
     pub reservation: Option<Reservation>,
 }
 

@@ -42,8 +42,10 @@ impl Origin {
 
 /// What a processor or memory has in a cell.
 #[derive(Clone, Copy, Debug, PartialEq, Eq)]
-pub struct Seen {
+pub struct CellContent {
+    /// The value: of a byte, or a location's whole value.
     pub value: u64,
+    /// Where it is from.
     pub origin: Origin,
 }
 

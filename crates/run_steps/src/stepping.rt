@@ -1,6 +1,6 @@
 //! What each line does, and whether it is a step.
 ghost use Rattle.std.specs.Prelude.{◌≡◌, ◌++◌, ◌<◌, [], IfOk, OnOk, length, map};
-ghost use Rattle.run_steps.specs.Machine.{state_after_line, after_step, last_refusals, line_comparison, line_refusals, processor_in, state_of_machine, step_comparison, step_refusals, view_of, waits_of};
+ghost use Rattle.run_steps.specs.Machine.{state_after_line, after_step, last_refusals, line_comparison, line_refusals, model_of, processor_in, state_of_machine, step_comparison, step_refusals, view_of, waits_of};
 ghost use Rattle.run_steps.specs.declared.steps.RunStep.TheVariants.{Drain};
 ghost use Rattle.run_steps.specs.Reads.{compared, refusal_of, sees, value_refusals};
 
@@ -25,9 +25,9 @@ impl Machine {
         requires { line.processor < 4096 }
         ensures after { OnOk result (state_of_machine self.new ≡ state_after_line line (state_of_machine self.old)) }
         ensures refused { OnOk result (map refusal_of refusals.new.items ≡ map refusal_of refusals.old.items ++
-            line_refusals self.old.order line (state_of_machine self.old)) }
+            line_refusals (model_of self.old) line (state_of_machine self.old)) }
         ensures compared { IfOk result (λ comparison. comparison ≡ line_comparison line (state_of_machine self.old)) }
-        ensures model { self.new.order ≡ self.old.order }
+        ensures model { model_of self.new ≡ model_of self.old }
     {
         self.admit(alloc, line.processor)?;
         self.step_admitted(alloc, line, refusals)
@@ -43,9 +43,9 @@ impl Machine {
         requires { line.processor < length self.old.processors.items }
         ensures after { OnOk result (state_of_machine self.new ≡ after_step line.number line.processor line.step (state_of_machine self.old)) }
         ensures refused { OnOk result (map refusal_of refusals.new.items ≡ map refusal_of refusals.old.items ++
-            step_refusals self.old.order line.number line.processor line.step (state_of_machine self.old)) }
+            step_refusals (model_of self.old) line.number line.processor line.step (state_of_machine self.old)) }
         ensures compared { IfOk result (λ comparison. comparison ≡ step_comparison line.number line.processor line.step (state_of_machine self.old)) }
-        ensures model { self.new.order ≡ self.old.order }
+        ensures model { model_of self.new ≡ model_of self.old }
     {
         let number = line.number;
         let p = line.processor;
@@ -171,9 +171,9 @@ impl Machine {
         requires { line.processor < length self.old.processors.items }
         ensures after { OnOk result (state_of_machine self.new ≡ after_step line.number line.processor (Drain at said) (state_of_machine self.old)) }
         ensures refused { OnOk result (map refusal_of refusals.new.items ≡ map refusal_of refusals.old.items ++
-            step_refusals self.old.order line.number line.processor (Drain at said) (state_of_machine self.old)) }
+            step_refusals (model_of self.old) line.number line.processor (Drain at said) (state_of_machine self.old)) }
         ensures compared { IfOk result (λ comparison. comparison ≡ step_comparison line.number line.processor (Drain at said) (state_of_machine self.old)) }
-        ensures model { self.new.order ≡ self.old.order }
+        ensures model { model_of self.new ≡ model_of self.old }
     {
         let p = line.processor;
         let Some(number) = drained_number(self.waits(p), at) else {

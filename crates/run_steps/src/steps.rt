@@ -60,6 +60,8 @@ pub enum RunStep {
 pub struct RunLine {
     /// The number of the line.
     pub number: u64,
+    /// The processor, 0 to 4,095.
     pub processor: usize,
+    /// What the processor did.
     pub step: RunStep,
 }

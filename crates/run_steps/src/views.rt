@@ -6,7 +6,7 @@ ghost use Rattle.run_steps.specs.Reads.{compared, is_origin, memory_of_cells, or
 use crate::cells::{Cell, cell_at};
 use crate::places::Place;
 use crate::processors::{WaitingStore, newest_over};
-use crate::refusals::{Comparison, Origin, RunRefusal, Seen};
+use crate::refusals::{CellContent, Comparison, Origin, RunRefusal};
 use std::alloc::Global;
 use std::collections::HashMap;
 use tso_ops::OutOfMemory;
@@ -20,18 +20,18 @@ pub(crate) struct View<'a> {
 
 impl<'a> View<'a> {
     /// What is seen in a cell: what the newest store that waits has there, or else what memory holds. None where that isn't known.
-    fn look(&self, cell: u64) -> Option<Seen>
+    fn look(&self, cell: u64) -> Option<CellContent>
         ensures { result ≡ sees (memory_of_cells self.now.cells.now) self.now.waiting.now cell }
     {
         if let Some(waiting) = newest_over(self.waiting, cell) {
             let number = cell.saturating_sub(waiting.place.address);
-            return Some(Seen {
+            return Some(CellContent {
                 value: waiting.place.part(waiting.value, number),
                 origin: Origin::Waiting(waiting.store),
             });
         }
         match cell_at(self.cells, cell) {
-            Cell::First(value) => Some(Seen {
+            Cell::First(value) => Some(CellContent {
                 value,
                 origin: Origin::First,
             }),
@@ -39,7 +39,7 @@ impl<'a> View<'a> {
                 value,
                 store,
                 reached,
-            } => Some(Seen {
+            } => Some(CellContent {
                 value,
                 origin: Origin::Reached {
                     store,
@@ -105,7 +105,7 @@ impl<'a> View<'a> {
 }
 
 /// Adds the origin of what is seen, if it isn't there. OutOfMemory where an allocation was refused.
-fn add_origin(origins: &mut Vec<Origin>, seen: Option<Seen>) -> Result<(), OutOfMemory>
+fn add_origin(origins: &mut Vec<Origin>, seen: Option<CellContent>) -> Result<(), OutOfMemory>
     ensures { OnOk result (origins.new.items ≡ with_origin origins.old.items seen) }
 {
     if let Some(seen) = seen {

@@ -1,8 +1,7 @@
 use Rattle.std.proofs.Common.{◌≡◌, ◌∙◌, ◌+◌, ◌-◌, ◌/◌, sym, ap, map, arith}
-use Rattle.std.specs.FinMap.{insert}
 use Rattle.run_steps.specs.Places.{cell_count, parts_from}
 use Rattle.run_steps.specs.Widths.{low_part}
-use Rattle.run_steps.specs.Reads.{filled, memory_of_cells, written_in}
+use Rattle.run_steps.specs.Reads.{filled, memory_of_cells, with_cell, written_in}
 use Rattle.run_steps.proofs.MemoryFacts.{filled-next}
 use Rattle.run_steps.proofs.cells.fill.Goals as goal
 
@@ -15,7 +14,7 @@ loop-i-preserved c =
     let address = c.args.place.address in
     let rest = c.loop-i.rest in
     let part : c.cell_of.result ≡ cell (low_part width rest) = c.cell_of.ensures ∙ ap cell c.low_part.ensures in
-    let put = c.in_ok-put.ensures ∙ ap (insert (memory_of_cells c.loop-i.cells) (address + i)) part in
+    let put = c.in_ok-put.ensures ∙ ap (with_cell (memory_of_cells c.loop-i.cells) (address + i)) part in
     let next : address + (i + 1) ≡ address + i + 1 = omega arith in
     let less : count - (i + 1) ≡ count - i - 1 = omega arith in
     ap (λ n. filled (memory_of_cells c.put.new.cells) n (map cell (parts_from width (count - (i + 1)) (rest / 256)))) next
