@@ -1,0 +1,5 @@
+pub mod Counts
+pub mod Facts
+pub mod KeptLines
+pub mod PlacesSaid
+pub mod Stages

@@ -1,0 +1,14 @@
+//! Runs that say their own order, followed line by line: whether their lines are steps of the store-buffer machine, and what is printed of that.
+//!
+//! `follow_run` reads a run and writes what a `Rendering` gives of it. `README.md` says what is proved.
+#![tactic(auto)]
+
+pub use counts::RunCounts;
+pub use facts::{Fact, NamedLine, RefusalKind, Standing, ToldRefusal};
+pub use stages::Stage;
+
+mod counts;
+mod facts;
+mod kept_lines;
+mod stages;
+mod widths;
