@@ -1,5 +1,9 @@
+pub mod Accounts
 pub mod Counts
 pub mod Facts
+pub mod Internal
 pub mod KeptLines
+pub mod Noted
 pub mod PlacesSaid
 pub mod Stages
+pub mod Tallies

@@ -9,6 +9,9 @@ pub use stages::Stage;
 
 mod counts;
 mod facts;
+mod followers;
 mod kept_lines;
+mod noted;
 mod stages;
+mod tallies;
 mod widths;

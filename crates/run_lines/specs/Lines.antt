@@ -1,5 +1,5 @@
 -- What a line of a run says.
-use Rattle.std.specs.Prelude.{ℕ, ◌||◌, not, Bool, nat_lt, List, [], ◌∷◌, Option, None, Some, Result, Ok, Err, codes, if◌then◌else◌}
+use Rattle.std.specs.Prelude.{ℕ, ◌<◌, ◌||◌, not, Bool, nat_lt, List, [], ◌∷◌, Option, None, Some, Result, Ok, Err, codes, if◌then◌else◌}
 use Rattle.std.specs.List.{list_all}
 use Rattle.std.specs.Str.{bytes_eq}
 use Rattle.line_text.specs.Lines.{tokens_of}
@@ -103,6 +103,14 @@ text_numbers text.Pso = pso
 text_numbers (text.First place v) = first (with_place place (v ∷ []))
 text_numbers (text.Step p s) = step p (step_word s) (numbers_of_step s)
 text_numbers text.End = finish
+
+-- a step is of a processor up to 4,095
+abbrev pub HasProcessor : RunText → Type 0
+HasProcessor text.Note = Unit {0}
+HasProcessor text.Pso = Unit {0}
+HasProcessor (text.First place v) = Unit {0}
+HasProcessor (text.Step p s) = p < 4096
+HasProcessor text.End = Unit {0}
 
 -- those of a line that is read
 abbrev pub line_left : Result RunText LineRefusal → Result LineNumbers LineRefusal

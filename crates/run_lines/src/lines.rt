@@ -1,7 +1,7 @@
 //! Whole lines.
 ghost use Rattle.std.specs.Prelude.{◌≡◌, ◌<◌, IfOk, IfSome, is_some};
 ghost use Rattle.line_text.specs.Lines.{tokens_after, tokens_of};
-ghost use Rattle.run_lines.specs.Lines.{is_plain, keyword_said, line_left, line_read, parts_said, processor_read, tokens_read};
+ghost use Rattle.run_lines.specs.Lines.{HasProcessor, is_plain, keyword_said, line_left, line_read, parts_said, processor_read, tokens_read};
 ghost use Rattle.run_lines.specs.Numerals.{number_spelled};
 
 use crate::arguments::{LineRefusal, Widths, place_and_value};
@@ -36,7 +36,8 @@ pub enum RunText {
 /// keyword, where a part is missing or is one too many; as BadNumber where a processor is above 4,095, or a part is no place, no number or
 /// no value of its place; as MixedWidths where its place has a width and those before had none, or the other way round.
 pub fn line_read(before: Widths, line: &[u8]) -> Result<RunText, LineRefusal>
-    ensures { line_left result ≡ line_read before line.now }
+    ensures said { line_left result ≡ line_read before line.now }
+    ensures processor { IfOk result HasProcessor }
 {
     if !is_plain(line) {
         return Err(LineRefusal::BadLine);
@@ -57,7 +58,8 @@ fn is_plain(line: &[u8]) -> bool
 /// What a line without its tag says.
 #[tactic(auto, unfolding(crate::specs::Lines::parts_said, crate::specs::Lines::tokens_read))]
 fn parts_said(before: Widths, said: &[u8]) -> Result<RunText, LineRefusal>
-    ensures { line_left result ≡ parts_said before said.now }
+    ensures said { line_left result ≡ parts_said before said.now }
+    ensures processor { IfOk result HasProcessor }
 {
     if said == b"model pso".as_slice() {
         return Ok(RunText::Pso);
@@ -76,7 +78,8 @@ fn parts_said(before: Widths, said: &[u8]) -> Result<RunText, LineRefusal>
 
 /// The processor that a part is.
 fn processor_read(part: &[u8]) -> Result<u64, LineRefusal>
-    ensures { result ≡ processor_read (number_spelled part.now) }
+    ensures read { result ≡ processor_read (number_spelled part.now) }
+    ensures few { IfOk result (λ processor. processor < 4096) }
 {
     let processor = numeral_of(part).ok_or(LineRefusal::BadLine)?;
     if processor > MAX_PROCESSOR {
@@ -91,7 +94,9 @@ fn keyword_said(
     processor: u64,
     parts: Option<&[u8]>,
 ) -> Result<RunText, LineRefusal>
-    ensures { line_left result ≡ keyword_said before processor (tokens_after parts.entry) }
+    requires { processor < 4096 }
+    ensures said { line_left result ≡ keyword_said before processor (tokens_after parts.entry) }
+    ensures processor { IfOk result HasProcessor }
 {
     let Some(rest) = parts else {
         return Err(LineRefusal::BadLine);

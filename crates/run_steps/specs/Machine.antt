@@ -135,6 +135,10 @@ with_store line place v x = record x { waits = x.waits ++ record { store = line;
 abbrev pub storing : ℕ → ℕ → Place → ℕ → MachineState → MachineState
 storing line p place v s = reaching line p (record { store = line; place = place; value = v; stbar = 0 }) s
 
+-- a first value of the place
+abbrev pub presetting : Place → ℕ → MachineState → MachineState
+presetting place v s = record s { memory = filled s.memory place.address (map (written_in written.First) (cell_parts place v)) }
+
 -- nothing is known of what memory has at the place
 abbrev pub forgetting : Place → MachineState → MachineState
 forgetting place s = record s { memory = filled s.memory place.address (map (written_in written.Unknown) (cell_parts place 0)) }

@@ -19,3 +19,4 @@ mod refusals;
 mod stepping;
 mod steps;
 mod views;
+mod waiting;

@@ -25,7 +25,7 @@ pub struct Machine {
 }
 
 impl Machine {
-    ghost use Rattle.run_steps.specs.Machine.{admitted, state_after_line, beginning_state, draining, emptied, forgetting, model_of, processor_in, reaching, state_of_machine, storing, waits_of, with_processor, with_reserved, with_store};
+    ghost use Rattle.run_steps.specs.Machine.{admitted, state_after_line, beginning_state, draining, emptied, forgetting, model_of, presetting, processor_in, reaching, state_of_machine, storing, waits_of, with_processor, with_reserved, with_store};
 
     /// A machine before the first line of a run: memory holds 0.
     pub fn new(alloc: Global, order: Order) -> Machine
@@ -39,10 +39,17 @@ impl Machine {
         }
     }
 
+    /// The memory model from here on.
+    pub fn set_model(&mut self, order: Order)
+        ensures model { model_of self.new ≡ order }
+        ensures state { state_of_machine self.new ≡ state_of_machine self.old }
+    {
+        self.order = order;
+    }
+
     /// Gives a place a first value. OutOfMemory where an allocation was refused.
     pub fn preset(&mut self, place: Place, value: u64) -> Result<(), OutOfMemory>
-        ensures memory { OnOk result ((state_of_machine self.new).memory ≡ filled (state_of_machine self.old).memory place.address
-            (map (written_in First) (cell_parts place value))) }
+        ensures state { OnOk result (state_of_machine self.new ≡ presetting place value (state_of_machine self.old)) }
         ensures others { (model_of self.new ≡ model_of self.old) × ((state_of_machine self.new).processors ≡ (state_of_machine self.old).processors) }
     {
         fill(&mut self.cells, place, value, Written::First)

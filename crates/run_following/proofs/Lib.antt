@@ -1,0 +1,2 @@
+pub mod FollowFacts
+pub mod NotedFacts
