@@ -5,3 +5,4 @@ pub mod StoreFacts
 pub mod StateFacts
 pub mod StepFacts
 pub mod RunFacts
+pub mod NameFacts

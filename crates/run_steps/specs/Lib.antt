@@ -4,3 +4,4 @@ pub mod Reads
 pub mod Runs
 pub mod Widths
 pub mod Steps
+pub mod Names

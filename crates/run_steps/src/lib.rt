@@ -13,6 +13,7 @@ pub use steps::{RunLine, RunStep};
 mod cells;
 pub mod laws;
 mod machines;
+mod names;
 mod places;
 mod processors;
 mod refusals;
