@@ -1,2 +1,3 @@
 pub mod FollowFacts
 pub mod NotedFacts
+pub mod StreamFacts

@@ -5,5 +5,6 @@ pub mod Internal
 pub mod KeptLines
 pub mod Noted
 pub mod PlacesSaid
+pub mod Runs
 pub mod Stages
 pub mod Tallies

@@ -13,5 +13,6 @@ mod followers;
 mod kept_lines;
 mod noted;
 mod stages;
+mod streams;
 mod tallies;
 mod widths;
