@@ -4,11 +4,13 @@
 pub use batches::{BatchFormat, BatchMethod, BatchPrinting};
 pub use campaigns::{CampaignPrinting, Execution};
 pub use faults::FaultKind;
+pub use following::FollowOptions;
 pub use logs::{LogForm, LogOptions};
 pub use outcomes::{OutcomeForm, OutcomeOptions};
 
 mod batches;
 mod campaigns;
 mod faults;
+mod following;
 mod logs;
 mod outcomes;

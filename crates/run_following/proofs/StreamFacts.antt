@@ -57,7 +57,7 @@ joined text line after parts =
     has.bytes ∙ ap (λ l. l ++ 10 ∷ has.rest) (ap (λ ps. get_or ps 0 []) both) ∙ ap (λ r. line ++ 10 ∷ r) (same_text has.rest after (ap (drop 1) both)))
     (first_line text)
 
-one_line : (line more : List ℕ) → has_line_end line ≡ false → parts_of (line ++ 10 ∷ more) ≡ line ∷ parts_of more
+pub one_line : (line more : List ℕ) → has_line_end line ≡ false → parts_of (line ++ 10 ∷ more) ≡ line ∷ parts_of more
 unfolding parts_of
 one_line line more none = split_part 10 line more none
 

@@ -1,2 +1,4 @@
 pub mod Answers
+pub mod Endings
+pub mod Faults
 pub mod Streams

@@ -1,10 +1,13 @@
 pub mod Accounts
 pub mod Counts
 pub mod Facts
+pub mod Found
 pub mod Internal
 pub mod KeptLines
 pub mod Noted
 pub mod PlacesSaid
+pub mod Reports
 pub mod Runs
 pub mod Stages
 pub mod Tallies
+pub mod Words

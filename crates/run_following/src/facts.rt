@@ -117,11 +117,7 @@ fn kind_of(refusal: &RunRefusal) -> RefusalKind
 }
 
 /// The facts that show a refusal. OutOfMemory where an allocation was refused.
-fn facts_of(
-    alloc: Global,
-    kept: &KeptLines,
-    refusal: &RunRefusal,
-) -> Result<Vec<Fact>, OutOfMemory>
+fn facts_of(alloc: Global, kept: &KeptLines, refusal: &RunRefusal) -> Result<Vec<Fact>, OutOfMemory>
     ensures { IfOk result (λ facts. map fact_value facts.items ≡ refusal_facts (kept_line kept.now) (refusal_of refusal.now)) }
 {
     let mut facts = Vec::new(alloc);

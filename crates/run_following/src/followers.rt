@@ -1,9 +1,10 @@
 //! A run, followed line by line.
-ghost use Rattle.std.specs.Prelude.{◌≡◌, ◌<◌, ◌+◌, ◌++◌, ◌∷◌, [], IfOk, OnOk, Some, true, length};
+ghost use Rattle.std.specs.Prelude.{◌≡◌, ◌<◌, ◌+◌, ◌++◌, ◌∷◌, [], IfErr, IfOk, OnOk, Some, true, length};
 ghost use Rattle.run_lines.specs.Lines.{HasProcessor, is_plain};
 ghost use Rattle.run_steps.specs.Machine.{state_of_machine};
 ghost use Rattle.run_following.specs.Accounts.{Account, Follows, account_at_start, is_full, is_waiting_store, why_of, with_line, with_said, with_step};
 ghost use Rattle.run_following.specs.Internal.Answers.{IsAnswered, IsAnsweredSaid};
+ghost use Rattle.run_following.specs.Internal.Faults.{IsRunFault};
 ghost use Rattle.run_following.specs.KeptLines.{kept_texts};
 ghost use Rattle.run_following.specs.Stages.{stage_after};
 
@@ -56,6 +57,7 @@ impl Follower {
     /// Goes on with the next line, or says why it is refused. Faults: OutOfMemory where an allocation was refused; Read above 2^64 lines or
     /// refusals.
     pub(crate) fn accept(&mut self, alloc: Global, line: &[u8]) -> Result<Option<Why>, Fault>
+        ensures fault { IfErr result IsRunFault }
         ensures answered { IfOk result (λ why. (account : Account) → Follows self.old account → IsAnswered account line.now self.new why) }
         ensures most { self.new.noted.most ≡ self.old.noted.most }
     {
@@ -77,6 +79,7 @@ impl Follower {
     ) -> Result<Option<Why>, Fault>
         requires processor { HasProcessor said }
         requires plain { is_plain line.now ≡ true }
+        ensures fault { IfErr result IsRunFault }
         ensures answered { IfOk result (λ why. (account : Account) → Follows self.old account → IsAnsweredSaid account line.now said self.new why) }
         ensures most { self.new.noted.most ≡ self.old.noted.most }
     {
@@ -100,6 +103,7 @@ impl Follower {
     ) -> Result<(), Fault>
         requires processor { HasProcessor said }
         requires plain { is_plain line.now ≡ true }
+        ensures fault { IfErr result IsRunFault }
         ensures follows { OnOk result ((account : Account) → Follows self.old account → stage_after account.stage said ≡ Some stage →
             Follows self.new (with_line account line.now said)) }
         ensures most { self.new.noted.most ≡ self.old.noted.most }
@@ -116,6 +120,7 @@ impl Follower {
     /// Keeps a line, which is ASCII.
     fn keep(&mut self, alloc: Global, line: &[u8]) -> Result<(), Fault>
         requires { is_plain line.now ≡ true }
+        ensures fault { IfErr result IsRunFault }
         ensures kept { OnOk result (kept_texts self.new.kept ≡ kept_texts self.old.kept ++ line.now ∷ []) }
         ensures others { self.new ≡ record self.old { kept = self.new.kept } }
     {
@@ -132,6 +137,7 @@ impl Follower {
     fn follow(&mut self, alloc: Global, number: u64, said: &RunText) -> Result<(), Fault>
         requires processor { HasProcessor said.now }
         requires next { number ≡ self.old.number + 1 }
+        ensures fault { IfErr result IsRunFault }
         ensures follows { OnOk result ((account : Account) → Follows self.old account → Follows self.new (with_said account said.now)) }
         ensures most { self.new.noted.most ≡ self.old.noted.most }
     {
@@ -154,6 +160,7 @@ impl Follower {
     /// Does a step.
     fn follow_step(&mut self, alloc: Global, line: RunLine) -> Result<(), Fault>
         requires processor { line.processor < 4096 }
+        ensures fault { IfErr result IsRunFault }
         ensures follows { OnOk result ((account : Account) → Follows self.old account → Follows self.new (with_step account line)) }
         ensures most { self.new.noted.most ≡ self.old.noted.most }
     {
@@ -169,7 +176,8 @@ impl Follower {
     {
         match said {
             RunText::Step { processor, step } => {
-                is_waiting_store(step) && self.machine.waiting_of(*processor as usize) >= MOST_WAITING
+                is_waiting_store(step)
+                    && self.machine.waiting_of(*processor as usize) >= MOST_WAITING
             },
             _ => false,
         }

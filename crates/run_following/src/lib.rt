@@ -5,14 +5,21 @@
 
 pub use counts::RunCounts;
 pub use facts::{Fact, NamedLine, RefusalKind, Standing, ToldRefusal};
+pub use forms::AsRunWords;
+pub use found::RunFound;
+pub use reports::follow_run;
 pub use stages::Stage;
 
 mod counts;
 mod facts;
 mod followers;
+mod forms;
+mod found;
 mod kept_lines;
 mod noted;
+mod reports;
 mod stages;
 mod streams;
 mod tallies;
 mod widths;
+mod words;

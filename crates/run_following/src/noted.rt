@@ -1,6 +1,7 @@
 //! The refusals of a run: the first of them, and how many there are.
-ghost use Rattle.std.specs.Prelude.{◌≡◌, ◌++◌, ◌∷◌, [], ℕ, List, OnOk, map};
+ghost use Rattle.std.specs.Prelude.{◌≡◌, ◌++◌, ◌∷◌, [], ℕ, List, IfErr, OnOk, map};
 ghost use Rattle.run_steps.specs.Reads.{RefusalValue, refusal_of};
+ghost use Rattle.run_following.specs.Internal.Faults.{IsRunFault};
 ghost use Rattle.run_following.specs.Noted.{AreNoted, numbered};
 
 use run_steps::RunRefusal;
@@ -39,11 +40,8 @@ impl NotedRefusals {
     }
 
     /// Notes the refusals of the line of this number. OutOfMemory where an allocation was refused; Read above 64 bits.
-    pub(crate) fn note_all(
-        &mut self,
-        number: u64,
-        refusals: Vec<RunRefusal>,
-    ) -> Result<(), Fault>
+    pub(crate) fn note_all(&mut self, number: u64, refusals: Vec<RunRefusal>) -> Result<(), Fault>
+        ensures fault { IfErr result IsRunFault }
         ensures noted { OnOk result ((rs : List (ℕ × RefusalValue)) → AreNoted self.old rs →
             AreNoted self.new (rs ++ map (numbered number) (map refusal_of refusals.items))) }
         ensures most { self.new.most ≡ self.old.most }
@@ -58,6 +56,7 @@ impl NotedRefusals {
 
     /// Notes one more. OutOfMemory where an allocation was refused; Read above 64 bits.
     fn note(&mut self, number: u64, refusal: RunRefusal) -> Result<(), Fault>
+        ensures fault { IfErr result IsRunFault }
         ensures noted { OnOk result ((rs : List (ℕ × RefusalValue)) → AreNoted self.old rs →
             AreNoted self.new (rs ++ numbered number (refusal_of refusal) ∷ [])) }
         ensures most { self.new.most ≡ self.old.most }

@@ -1,6 +1,7 @@
 //! The bytes of a run, followed as they come.
-ghost use Rattle.std.specs.Prelude.{◌≡◌, ◌++◌, [], List, ℕ, IfOk, IfSome, IfNone};
+ghost use Rattle.std.specs.Prelude.{◌≡◌, ◌++◌, [], List, ℕ, IfErr, IfOk};
 ghost use Rattle.run_following.specs.Accounts.{Account, Follows};
+ghost use Rattle.run_following.specs.Internal.Faults.{IsRunFault};
 ghost use Rattle.run_following.specs.Internal.Streams.{IsTaken, StandsAt, StopsAfter, IsCutOff};
 
 use crate::followers::Follower;
@@ -46,6 +47,7 @@ impl RunStream {
     /// Follows the lines that end in the next bytes, until one ends the run. OutOfMemory where an allocation was refused; Read above 2^64 lines
     /// or refusals.
     pub(crate) fn take(&mut self, alloc: Global, chunk: &[u8]) -> Result<Option<Stop>, Fault>
+        ensures fault { IfErr result IsRunFault }
         ensures stands { IfOk result (λ stop. (bytes : List ℕ) → StandsAt self.old bytes [] → StopsAfter self.new (bytes ++ chunk.now) stop) }
         ensures options { (self.new.is_fast ≡ self.old.is_fast) × (self.new.follower.noted.most ≡ self.old.follower.noted.most) }
     {
@@ -64,6 +66,7 @@ impl RunStream {
 
     /// Follows a line that ends with these bytes.
     fn take_line(&mut self, alloc: Global, line: &[u8]) -> Result<Option<Stop>, Fault>
+        ensures fault { IfErr result IsRunFault }
         ensures taken { IfOk result (λ stop. (account : Account) → Follows self.old.follower account →
             IsTaken self.new account (self.old.pending.items ++ line.now) stop) }
         ensures options { (self.new.is_fast ≡ self.old.is_fast) × (self.new.follower.noted.most ≡ self.old.follower.noted.most) }
@@ -83,7 +86,8 @@ impl RunStream {
 
     /// Why the run is refused at its end: its last line has no line end, or the line `end` is needed and missing.
     pub(crate) fn fault_at_end(&self, needs_end: bool) -> Result<Option<TextFault>, Fault>
-        ensures { IfOk result (λ fault. (account : Account) → Follows self.now.follower account → IsCutOff self.now account needs_end fault) }
+        ensures fault { IfErr result IsRunFault }
+        ensures cut_off { IfOk result (λ fault. (account : Account) → Follows self.now.follower account → IsCutOff self.now account needs_end fault) }
     {
         let number = self.follower.number.checked_add(1).ok_or(Fault::Read)?;
         if !self.pending.is_empty() || needs_end && self.follower.stage != Stage::Ended {

@@ -1,8 +1,9 @@
 //! What is counted of a run while its lines come.
-ghost use Rattle.std.specs.Prelude.{◌≡◌, ◌<◌, ◌||◌, ◌++◌, ◌∷◌, [], List, Bool, OnOk, false, not};
+ghost use Rattle.std.specs.Prelude.{◌<◌, ◌||◌, ◌++◌, ◌∷◌, [], List, Bool, IfErr, OnOk, false, not};
 ghost use Rattle.run_steps.specs.declared.steps.RunLine.{RunLine};
 ghost use Rattle.run_following.specs.declared.counts.RunCounts.{RunCounts};
 ghost use Rattle.run_following.specs.Counts.{counted};
+ghost use Rattle.run_following.specs.Internal.Faults.{IsRunFault};
 ghost use Rattle.run_following.specs.Tallies.{Tallies, has_acted, is_compared};
 
 use crate::counts::RunCounts;
@@ -37,7 +38,8 @@ impl Tally {
     /// Counts one more line. Read above 64 bits.
     pub(crate) fn count(&mut self, line: RunLine, comparison: Comparison) -> Result<(), Fault>
         requires { line.processor < 4096 }
-        ensures { OnOk result ((steps : List RunLine) (counts : RunCounts) (compared : Bool) → Tallies self.old steps counts compared →
+        ensures fault { IfErr result IsRunFault }
+        ensures counted { OnOk result ((steps : List RunLine) (counts : RunCounts) (compared : Bool) → Tallies self.old steps counts compared →
             Tallies self.new (steps ++ line ∷ []) (counted (not (has_acted steps line.processor)) line.step comparison counts)
             (compared || is_compared comparison)) }
     {

@@ -16,7 +16,7 @@ returns-clause-follows c =
       stage = f.stage;
       model = step.model ∙ f.model;
       state = step.after ∙ ap (state_after_line line) f.state;
-      tally = tallied_alike line account _ _ (step.compared ∙ ap (line_comparison line) f.state) (c.in_ok-count.ensures account.steps account.counts account.compared f.tally);
+      tally = tallied_alike line account _ _ (step.compared ∙ ap (line_comparison line) f.state) (c.in_ok-count.ensures.counted account.steps account.counts account.compared f.tally);
       noted = refused_alike line account _ _ (step.refused ∙ ap (λ rs. map refusal_of rs ++ line_refusals (model_of c.args.self.now.machine) line (state_of_machine c.args.self.now.machine)) c.new-refusals.ensures.items)
           f.model f.state (noted account.refusals f.noted);
     }) c.note_all.ensures.noted

@@ -1,0 +1,12 @@
+//! How a run that says its own order is followed.
+
+/// How a run is followed.
+#[derive(Clone, Copy, Debug, PartialEq, Eq)]
+pub struct FollowOptions {
+    /// Of how many refusals is told at most.
+    pub most: usize,
+    /// Whether a text without the line `end` is refused.
+    pub needs_end: bool,
+    /// Whether the first line that is no step ends the run.
+    pub is_fast: bool,
+}

@@ -1,0 +1,17 @@
+use Rattle.std.proofs.Common.{◌≡◌, ◌∙◌, ◌++◌, ap, append_assoc, codes, string_bytes, List, ℕ}
+use Rattle.std.proofs.lemmas.Result.{on_ok_weaker}
+use Rattle.run_following.specs.Words.{number_words}
+use Rattle.run_following.proofs.words.push_operations.Goals as goal
+
+-- three texts after one
+three_more : (a b c d x y z : List ℕ) → b ≡ a ++ x → c ≡ b ++ y → d ≡ c ++ z → d ≡ a ++ (x ++ y ++ z)
+three_more a b c d x y z first second third =
+    third ∙ ap (λ t. t ++ z) (second ∙ ap (λ t. t ++ y) first ∙ append_assoc a x y) ∙ append_assoc a (x ++ y) z
+
+pub returns : goal.returns
+returns c =
+    let counts = c.args.counts in
+    on_ok_weaker c.push_number-3.result
+    (three_more (string_bytes c.args.text.now) (string_bytes c.push_number.new.text) (string_bytes c.push_number-2.new.text) (string_bytes c.push_number-3.new.text) (number_words (codes "processors ") counts.processors)
+    (number_words (codes " operations ") counts.operations) (number_words (codes " loads ") counts.loads) c.in_ok-push_number.ensures c.in_ok-push_number-2.ensures)
+    c.push_number-3.ensures
