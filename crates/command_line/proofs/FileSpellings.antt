@@ -94,7 +94,7 @@ asks_check trace cert plain also =
     let asked = λ (first second : Option Text). option_map_or (λ texts. checking texts.0 texts.1 None) (pair_of first second) refusing in
     subst (λ file. Asks (codes "check" ∷ trace ∷ cert ∷ []) (asked file (Some cert))) (named trace plain)
     (subst (λ file. Asks (codes "check" ∷ trace ∷ cert ∷ []) (asked (file_of (Some trace)) file)) (named cert also)
-    (subcommand subcommands.check (trace ∷ cert ∷ []) (texts_given [] [] (trace ∷ cert ∷ []) parameters) [] (7, omega arith, refl)
+    (subcommand subcommands.check (trace ∷ cert ∷ []) (texts_given [] [] (trace ∷ cert ∷ []) parameters) [] (8, omega arith, refl)
     (give parameters (trace ∷ cert ∷ []) (two_names trace cert (plain_value trace plain) (plain_value cert also)) refl refl)))
 
 -- the options of a log where none is given

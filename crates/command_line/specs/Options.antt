@@ -19,6 +19,7 @@ use Rattle.request_options.specs.declared.campaigns.Execution.TheVariants.{Repla
 use Rattle.request_options.specs.declared.outcomes.OutcomeForm.{OutcomeForm}
 use Rattle.request_options.specs.declared.outcomes.OutcomeForm.TheVariants.{States, Traces}
 use Rattle.command_line.specs.declared.options.Printing.{Printing}
+use Rattle.request_options.specs.declared.following.FollowOptions.{FollowOptions}
 use Rattle.request_options.specs.declared.logs.LogForm.{LogForm}
 use Rattle.request_options.specs.declared.logs.LogForm.TheVariants as forms
 use Rattle.request_options.specs.declared.logs.LogOptions.{LogOptions}
@@ -117,6 +118,13 @@ abbrev pub log_options_of : (Text → Option Text) → Option LogOptions
 log_options_of given =
     option_map (log_options_in given)
     (log_form_of (is_true (given (codes "trace"))) (is_true (given (codes "explain"))))
+
+abbrev pub follow_options_of : (Text → Option Text) → FollowOptions
+follow_options_of given = record {
+  most = within 1 log_violation_limit (number_or 10 (given (codes "most")));
+  needs_end = is_true (given (codes "ended"));
+  is_fast = is_true (given (codes "fail-fast"));
+}
 
 abbrev pub given_shape : (Text → Option Text) → ShapeNumbers
 given_shape given = record {

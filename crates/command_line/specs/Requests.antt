@@ -5,6 +5,7 @@ use Rattle.command_line.specs.declared.requests.TextPair.{TextPair}
 use Rattle.command_line.specs.declared.requests.TextPair.TheVariants.{Files, InputAndFile, FileAndInput}
 use Rattle.request_options.specs.declared.batches.BatchPrinting.{BatchPrinting}
 use Rattle.command_line.specs.declared.options.CampaignOptions.{CampaignOptions}
+use Rattle.request_options.specs.declared.following.FollowOptions.{FollowOptions}
 use Rattle.request_options.specs.declared.logs.LogOptions.{LogOptions}
 use Rattle.request_options.specs.declared.outcomes.OutcomeOptions.{OutcomeOptions}
 use Rattle.command_line.specs.declared.options.MakeOptions.{MakeOptions}
@@ -13,7 +14,7 @@ use Rattle.command_line.specs.declared.options.Printing.{Printing}
 use Rattle.command_line.specs.declared.options.Printing.TheVariants.{Report, Trace, Explanation}
 use Rattle.command_line.specs.declared.options.RunOptions.{RunOptions}
 use Rattle.command_line.specs.declared.options.UnitOptions.{UnitOptions}
-use Rattle.command_line.specs.declared.requests.Request.TheVariants.{Judge, Decide, Reduce, Batch, Log, Check, Verify, Outcomes, Seen, Replay, Run, RunTimes, Make, Campaign, Show, Refuse}
+use Rattle.command_line.specs.declared.requests.Request.TheVariants.{Judge, Decide, Reduce, Batch, Log, Follow, Check, Verify, Outcomes, Seen, Replay, Run, RunTimes, Make, Campaign, Show, Refuse}
 
 -- the bytes of a text
 abbrev pub Text : Type 0
@@ -44,6 +45,8 @@ pub data Asked : Type 0 where
   batching : List (Option Text) → ℕ → BatchPrinting → Asked
   -- to find violations of a log, and to show so many at most in this form
   logging : Option Text → LogOptions → Asked
+  -- to follow a run that says its own order
+  following : Option Text → FollowOptions → Asked
   -- to check against a trace, the first text or the trace of this number in it, a certificate, the second
   checking : Option Text → Option Text → Option ℕ → Asked
   -- to check evidence, the second text, of whether a trace, the first text or the trace of this number in it, has such an order
@@ -82,6 +85,7 @@ asked_of (Decide decide) = deciding decide.presentation (option_map (λ f. f.now
 asked_of (Reduce reduce) = reducing (option_map (λ f. f.now) reduce.file) reduce.nth
 asked_of (Batch batch) = batching (map (option_map (λ f. f.now)) batch.texts.items) batch.workers batch.printing
 asked_of (Log log) = logging (option_map (λ f. f.now) log.file) log.options
+asked_of (Follow follow) = following (option_map (λ f. f.now) follow.file) follow.options
 asked_of (Check check) = checking (files_of check.texts).0 (files_of check.texts).1 check.nth
 asked_of (Verify check) = verifying (files_of check.texts).0 (files_of check.texts).1 check.nth
 asked_of (Outcomes outcomes) = listing (option_map (λ f. f.now) outcomes.program) outcomes.options
@@ -147,6 +151,7 @@ needs (deciding presentation file workers nth effort) = record nothing_needed { 
 needs (reducing file nth) = record nothing_needed { texts = file ∷ [] }
 needs (batching texts workers printing) = record nothing_needed { texts = texts; workers = Some workers }
 needs (logging file options) = record nothing_needed { texts = file ∷ [] }
+needs (following file options) = record nothing_needed { texts = file ∷ [] }
 needs (checking trace certificate nth) = record nothing_needed { texts = trace ∷ certificate ∷ [] }
 needs (verifying trace evidence nth) = record nothing_needed { texts = trace ∷ evidence ∷ [] }
 needs (listing program options) = record nothing_needed { texts = program ∷ [] }

@@ -13,8 +13,8 @@ use Rattle.command_line.specs.declared.options.RunOptions.{RunOptions}
 use Rattle.command_line.specs.declared.parameters.NameList.{NameList}
 use Rattle.command_line.specs.declared.parameters.NameList.TheVariants.{Units, Models, Formats}
 use Rattle.command_line.specs.Pictures.{chosen_picture, edges, picture_form}
-use Rattle.command_line.specs.Requests.{Text, Asked, batching, campaigning, capacity_limit, checking, counting, deciding, drain_turns_limit, judging, listing, log_effort_limit, log_violation_limit, logging, making, number_limit, percent_limit, prints_trace, reducing, refusing, repeating, replaying, run_times_limit, running, verifying, requested_worker_limit}
-use Rattle.command_line.specs.Options.{batch_printing_of, campaign_printing_of, chosen_order, drain_turns_of, effort_of, execution_of, given_number, given_shape, given_unit, is_true, log_options_of, number_or, outcome_form_of, pair_of, run_of, times_of, workers_of}
+use Rattle.command_line.specs.Requests.{Text, Asked, batching, campaigning, capacity_limit, checking, counting, deciding, drain_turns_limit, following, judging, listing, log_effort_limit, log_violation_limit, logging, making, number_limit, percent_limit, prints_trace, reducing, refusing, repeating, replaying, run_times_limit, running, verifying, requested_worker_limit}
+use Rattle.command_line.specs.Options.{batch_printing_of, campaign_printing_of, chosen_order, drain_turns_of, effort_of, execution_of, follow_options_of, given_number, given_shape, given_unit, is_true, log_options_of, number_or, outcome_form_of, pair_of, run_of, times_of, workers_of}
 
 pub record Subcommand : Type 0 where
   pub name : Text
@@ -186,6 +186,15 @@ log = record {
   ask = λ given. option_map_or (logging (file_of (given (codes "file")))) (log_options_of given) refusing;
 }
 
+-- `follow [--most K] [--ended] [--fail-fast] [--verbose] [LOG]`: follows the run in a file, or on standard input
+abbrev pub follow : Subcommand
+follow = record {
+  name = codes "follow";
+  parameters =
+      option (codes "most") (range 1 log_violation_limit) (Some (codes "10")) ∷ flag (codes "ended") ∷ flag (codes "fail-fast") ∷ verbose ∷ other (codes "file") false ∷ [];
+  ask = λ given. following (file_of (given (codes "file"))) (follow_options_of given);
+}
+
 -- `check [--nth K] [--verbose] TRACE CERT`: checks a certificate against its trace, or against that of a number among those that stand one after the other
 abbrev pub check : Subcommand
 check = record {
@@ -289,4 +298,4 @@ campaign = record {
 
 abbrev pub subcommands : List Subcommand
 subcommands =
-    judge ∷ decide ∷ explain ∷ draw ∷ reduce ∷ batch ∷ log ∷ check ∷ verify ∷ outcomes ∷ replay ∷ run ∷ make ∷ campaign ∷ []
+    judge ∷ decide ∷ explain ∷ draw ∷ reduce ∷ batch ∷ log ∷ follow ∷ check ∷ verify ∷ outcomes ∷ replay ∷ run ∷ make ∷ campaign ∷ []

@@ -6,10 +6,12 @@ ghost use Rattle.command_line.specs.Requests.{asked_of, files_of, refusing};
 ghost use Rattle.command_line.specs.Options.{batch_printing_of, campaign_printing_of, execution_of, given_shape, given_unit, is_true, log_form_of, log_options_of, method_of, pair_of, printing_of, run_of};
 ghost use Rattle.command_line.specs.Subcommands.{batch, batch_texts, campaign, check, decide, explain, file_of, judge, log, log_parameters, make, presented, reduce, replay, run_parameters, shape_parameters, unit_parameters, verify};
 
+pub(crate) use following::follow;
 pub(crate) use outcomes::outcomes;
 pub(crate) use pictures::draw;
 pub(crate) use runs::run;
 
+mod following;
 mod outcomes;
 mod pictures;
 mod runs;

@@ -15,7 +15,7 @@ use crate::options::{
 use crate::subcommands;
 use clap::error::ErrorKind;
 use clap::{ArgMatches, Error};
-use request_options::{BatchPrinting, LogOptions, OutcomeOptions};
+use request_options::{BatchPrinting, FollowOptions, LogOptions, OutcomeOptions};
 use std::alloc::{AllocError, Global};
 
 /// Which program to run with a thread per processor, and how.
@@ -141,6 +141,15 @@ pub struct LogRequest<'a> {
     pub options: LogOptions,
 }
 
+/// Which run is followed, and how.
+#[derive(Clone, Copy)]
+pub struct FollowRequest<'a> {
+    /// The file with the run; standard input where none is named.
+    pub file: Option<&'a str>,
+    /// How far it is followed, and of how many refusals is told.
+    pub options: FollowOptions,
+}
+
 /// What the arguments of a command line ask for.
 #[derive(Drop)]
 pub enum Request<'a> {
@@ -154,6 +163,8 @@ pub enum Request<'a> {
     Batch(BatchRequest<'a>),
     /// To find violations of a log.
     Log(LogRequest<'a>),
+    /// To follow a run that says its own order.
+    Follow(FollowRequest<'a>),
     /// To check a certificate against its trace.
     Check(CheckRequest<'a>),
     /// To check evidence on a trace: that it has an order that meets the axioms of its memory model, or none.

@@ -23,6 +23,7 @@ mod check;
 mod decide;
 mod draw;
 mod explain;
+mod follow;
 mod judge;
 mod log;
 mod make;
@@ -46,6 +47,7 @@ enum Subcommand {
     Reduce,
     Batch,
     Log,
+    Follow,
     Check,
     Verify,
     Outcomes,
@@ -56,7 +58,7 @@ enum Subcommand {
 }
 
 /// All of them, as the help lists them.
-static SUBCOMMANDS: [Subcommand; 14] = [
+static SUBCOMMANDS: [Subcommand; 15] = [
     Subcommand::Judge,
     Subcommand::Decide,
     Subcommand::Explain,
@@ -64,6 +66,7 @@ static SUBCOMMANDS: [Subcommand; 14] = [
     Subcommand::Reduce,
     Subcommand::Batch,
     Subcommand::Log,
+    Subcommand::Follow,
     Subcommand::Check,
     Subcommand::Verify,
     Subcommand::Outcomes,
@@ -87,6 +90,7 @@ impl Subcommand {
             Subcommand::Reduce => &reduce::REDUCE,
             Subcommand::Batch => &batch::BATCH,
             Subcommand::Log => &log::LOG,
+            Subcommand::Follow => &follow::FOLLOW,
             Subcommand::Check => &check::CHECK,
             Subcommand::Verify => &verify::VERIFY,
             Subcommand::Outcomes => &outcomes::OUTCOMES,
@@ -107,6 +111,7 @@ impl Subcommand {
             Subcommand::Reduce => &reduce::HELP,
             Subcommand::Batch => &batch::HELP,
             Subcommand::Log => &log::HELP,
+            Subcommand::Follow => &follow::HELP,
             Subcommand::Check => &check::HELP,
             Subcommand::Verify => &verify::HELP,
             Subcommand::Outcomes => &outcomes::HELP,
@@ -149,6 +154,7 @@ impl Subcommand {
             Subcommand::Reduce => Ok(found::reduce(matches)),
             Subcommand::Batch => found::batch(alloc, matches),
             Subcommand::Log => found::log(alloc, matches),
+            Subcommand::Follow => Ok(found::follow(matches)),
             Subcommand::Check => found::check(alloc, matches),
             Subcommand::Verify => found::verify(alloc, matches),
             Subcommand::Outcomes => found::outcomes(alloc, matches),
@@ -169,6 +175,7 @@ impl Subcommand {
             | Subcommand::Explain
             | Subcommand::Draw
             | Subcommand::Reduce
+            | Subcommand::Follow
             | Subcommand::Check
             | Subcommand::Verify
             | Subcommand::Outcomes

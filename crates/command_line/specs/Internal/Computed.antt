@@ -10,7 +10,7 @@ use Rattle.command_line.specs.declared.options.OptionNames.{OptionNames}
 use Rattle.command_line.specs.Subcommands as s
 use Rattle.command_line.specs.Subcommands.{subcommands}
 use Rattle.command_line.specs.declared.subcommands.Subcommand.{Subcommand}
-use Rattle.command_line.specs.declared.subcommands.Subcommand.TheVariants.{Judge, Decide, Explain, Draw, Reduce, Batch, Log, Check, Verify, Outcomes, Replay, Run, Make, Campaign}
+use Rattle.command_line.specs.declared.subcommands.Subcommand.TheVariants.{Judge, Decide, Explain, Draw, Reduce, Batch, Log, Follow, Check, Verify, Outcomes, Replay, Run, Make, Campaign}
 use Rattle.command_line.specs.declared.parameters.NameList.{NameList}
 use Rattle.command_line.specs.declared.parameters.Parameter.{Parameter as Declared}
 use Rattle.command_line.specs.declared.parameters.Parameter.TheVariants as declared
@@ -41,6 +41,7 @@ member_of Draw = s.draw
 member_of Reduce = s.reduce
 member_of Batch = s.batch
 member_of Log = s.log
+member_of Follow = s.follow
 member_of Check = s.check
 member_of Verify = s.verify
 member_of Outcomes = s.outcomes
