@@ -14,7 +14,7 @@ PROCESSORS = 4096
 WIDTHS = (1, 2, 4, 8)
 NUMBER = re.compile(r"0x[0-9a-f]+|[0-9]+", re.ASCII)
 # How many numbers an operation may have, with its address.
-OPERATIONS = dict.fromkeys(("ld", "st", "wr", "lr", "sc", "last"), (2,)) | {"sw": (3,), "un": (1,), "dr": (0, 1, 2), "mb": (0,), "stbar": (0,)}
+OPERATIONS = {**dict.fromkeys(("ld", "st", "wr", "lr", "sc", "last"), (2,)), "sw": (3,), "un": (1,), "dr": (0, 1, 2), "mb": (0,), "stbar": (0,)}
 # Of the lines that can't be translated so many are told.
 MOST_TOLD = 20
 # No number of 64 bits has so many digits, even with many zeros before it.
@@ -47,10 +47,12 @@ class Bytes(NamedTuple):
 
 class Log:
     """A log while it is translated. `place` names the file and line that are read; it is kept for each line of the log.
-    `is_ended` says that nothing may follow."""
+    `is_ended` says that nothing may follow, `has_widths` whether addresses have widths, once that is known; `bytes` are those of
+    first values, or their addresses."""
 
     def __init__(self, model):
-        self.model, self.first, self.operations, self.place, self.is_ended, self.has_widths = model, {}, [], "", False, None
+        self.model, self.first, self.operations, self.place, self.is_ended = model, {}, [], "", False
+        self.has_widths, self.bytes = None, set()
 
     def check(self, address, *values):
         """Refuses what can't stand in a line: an address or bytes, and values of it."""
@@ -68,8 +70,10 @@ class Log:
     def add_first(self, address, value):
         """The first value of an address, or of bytes."""
         self.check(address, value)
-        if address in self.first or self.has_widths and any(share_a_byte(address, other) for other in self.first):
+        found = range(address.address, address.address + address.width) if self.has_widths else (address,)
+        if not self.bytes.isdisjoint(found):
             raise NoLine(f"a second first value of address {address}")
+        self.bytes.update(found)
         self.first[address] = value, self.place
 
     def add(self, processor, word, *numbers, tag=""):
@@ -175,11 +179,6 @@ def numbers_said(words):
 def is_operation(words):
     """Whether words are a processor, an operation and as many more as it has."""
     return len(words) > 1 and len(words) - 2 in OPERATIONS.get(words[1], ())
-
-
-def share_a_byte(one, other):
-    """Whether bytes have one in common."""
-    return one.address < other.address + other.width and other.address < one.address + one.width
 
 
 def is_frame(log, words):
