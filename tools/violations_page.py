@@ -26,6 +26,8 @@ figcaption { font-size: .85em; margin-top: .8em }
 figcaption ul { margin: .2em 0 0; padding-left: 1.4em }
 summary { cursor: pointer }
 """
+# Columns of numbers.
+NUMBERS = ("Group", "Violations", "Refusals", "First")
 # The caption of a picture, whose first lines are the verdict and how much is drawn; then comes what colours and names say.
 CAPTION = re.compile(r'^  label="(.*?)(blue edge: .*)?";$', re.MULTILINE)
 
@@ -135,31 +137,44 @@ def row_of(number, group):
             f'<td><code>{html.escape(group.shape)}</code></td><td class="number">{group.positions[0]}</td></tr>\n')
 
 
+def name_shown(stream):
+    """The name of a stream, in characters that a page may have."""
+    return "standard input" if stream == "-" else stream.encode("utf-8", "replace").decode("utf-8")
+
+
 def page_of(stream, groups, sections):
-    count = sum(len(group.positions) for group in groups)
+    """The page of groups of traces."""
+    about = f"""\
+{sum(len(group.positions) for group in groups)} violations in {len(groups)} groups, the largest first. Each violation was reduced to a small trace that shows it, with other \
+addresses and values; a group is those whose small traces have a cycle of the same shape. <code>tools/sort-violations --help</code> \
+says what shapes and names mean. <code>tsobench explain --nth N</code> explains the violation at position N as it came."""
     rows = "".join(row_of(number, group) for number, group in enumerate(groups, 1))
+    other = "<p>The cycle of picture and explanation may be another than that of the shape, where a trace has several.</p>\n"
+    return page_with(f"Violations of {stream}", about, ("Group", "Violations", "Name", "Shape", "First"), rows, other + "".join(sections))
+
+
+def page_with(title, about, columns, rows, rest):
+    """A page with a table of groups that has these columns and rows, and what it says before and after."""
+    heads = "".join(f'<th class="number">{name}</th>' if name in NUMBERS else f"<th>{name}</th>" for name in columns)
     return f"""\
 <!DOCTYPE html>
 <html lang="en">
 <head>
 <meta charset="utf-8">
 <meta name="viewport" content="width=device-width, initial-scale=1">
-<title>Violations of {html.escape(stream)}</title>
+<title>{html.escape(title)}</title>
 <style>
 {STYLE}</style>
 </head>
 <body>
-<h1>Violations of {html.escape(stream)}</h1>
-<p>{count} violations in {len(groups)} groups, the largest first. Each violation was reduced to a small trace that shows it, with other \
-addresses and values; a group is those whose small traces have a cycle of the same shape. <code>tools/sort-violations --help</code> \
-says what shapes and names mean. <code>tsobench explain --nth N</code> explains the violation at position N as it came.</p>
+<h1>{html.escape(title)}</h1>
+<p>{about}</p>
 <table id="groups">
-<thead><tr><th class="number">Group</th><th class="number">Violations</th><th>Name</th><th>Shape</th><th class="number">First</th></tr></thead>
+<thead><tr>{heads}</tr></thead>
 <tbody>
 {rows}</tbody>
 </table>
-<p>The cycle of picture and explanation may be another than that of the shape, where a trace has several.</p>
-{"".join(sections)}</body>
+{rest}</body>
 </html>
 """
 
@@ -169,6 +184,5 @@ def write(path, program, stream, groups, workers):
     with concurrent.futures.ThreadPoolExecutor(workers) as pool:
         contents = list(pool.map(functools.partial(content_of, program), enumerate(groups, 1)))
     sections = [section_of(number, *parts) for number, parts in enumerate(zip(groups, contents, new_legends(contents)), 1)]
-    shown = "standard input" if stream == "-" else stream.encode("utf-8", "replace").decode("utf-8")
     with open(path, "w", encoding="utf-8") as file:
-        file.write(page_of(shown, groups, sections))
+        file.write(page_of(name_shown(stream), groups, sections))

@@ -4,11 +4,17 @@ from __future__ import annotations
 
 import argparse
 import contextlib
+import re
 import sys
 from collections.abc import Iterator
+from typing import NamedTuple
 
-NUMBERS = 2**64
+BITS = 64
 PROCESSORS = 4096
+WIDTHS = (1, 2, 4, 8)
+NUMBER = re.compile(r"0x[0-9a-f]+|[0-9]+", re.ASCII)
+# How many numbers an operation may have, with its address.
+OPERATIONS = {**dict.fromkeys(("ld", "st", "wr", "lr", "sc", "last"), (2,)), "sw": (3,), "un": (1,), "dr": (0, 1, 2), "mb": (0,), "stbar": (0,)}
 # Of the lines that can't be translated so many are told.
 MOST_TOLD = 20
 # No number of 64 bits has so many digits, even with many zeros before it.
@@ -22,27 +28,61 @@ class NoLine(Exception):
     """Why a line can't be translated."""
 
 
+class Bytes(NamedTuple):
+    """So many bytes from an address on, which stand in place of an address."""
+
+    address: int
+    width: int
+
+    def __str__(self):
+        return f"{self.address}/{self.width}"
+
+    def check(self):
+        """Refuses what are no bytes of memory."""
+        if self.width not in WIDTHS:
+            raise NoLine(f"width {self.width} isn't 1, 2, 4 or 8")
+        number_within(self.address, "address")
+        number_within(self.address + self.width - 1, "address")
+
+
 class Log:
     """A log while it is translated. `place` names the file and line that are read; it is kept for each line of the log.
-    `is_ended` says that nothing may follow."""
+    `is_ended` says that nothing may follow, `has_widths` whether addresses have widths, once that is known; `bytes` are those of
+    first values, or their addresses."""
 
     def __init__(self, model):
         self.model, self.first, self.operations, self.place, self.is_ended = model, {}, [], "", False
+        self.has_widths, self.bytes = None, set()
+
+    def check(self, address, *values):
+        """Refuses what can't stand in a line: an address or bytes, and values of it."""
+        has_width = isinstance(address, Bytes)
+        if self.has_widths not in (None, has_width):
+            raise NoLine("addresses with a width and addresses without one")
+        self.has_widths = has_width
+        if has_width:
+            address.check()
+        else:
+            number_within(address, "number")
+        for value in values:
+            number_within(value, "number", 8 * address.width if has_width else BITS)
 
     def add_first(self, address, value):
-        """The first value of an address."""
-        number_within(address, "address"), number_within(value, "value")
-        if address in self.first:
+        """The first value of an address, or of bytes."""
+        self.check(address, value)
+        found = range(address.address, address.address + address.width) if self.has_widths else (address,)
+        if not self.bytes.isdisjoint(found):
             raise NoLine(f"a second first value of address {address}")
+        self.bytes.update(found)
         self.first[address] = value, self.place
 
-    def add(self, processor, word, *numbers):
-        """An operation of a processor."""
+    def add(self, processor, word, *numbers, tag=""):
+        """An operation of a processor: its address or bytes come first of the numbers. A tag stands at the end of the line."""
         if not 0 <= processor < PROCESSORS:
             raise NoLine(f"processor {processor} isn't 0 to {PROCESSORS - 1}")
-        for number in numbers:
-            number_within(number, "number")
-        self.operations.append((" ".join(map(str, (processor, word, *numbers))), self.place))
+        if numbers:
+            self.check(*numbers)
+        self.operations.append((" ".join(map(str, (processor, word, *numbers))) + (f" # {tag}" if tag else ""), self.place))
 
     def lines(self) -> Iterator[tuple[str, str]]:
         """The lines of the log, each with its place."""
@@ -112,10 +152,48 @@ def number_of(digits, base=10):
     return int(digits, base)
 
 
-def number_within(number, what):
-    """Refuses what is no number of 64 bits."""
-    if not 0 <= number < NUMBERS:
-        raise NoLine(f"{what} {number} isn't of 64 bits")
+def number_within(number, what, bits=BITS):
+    """Refuses what is no number of so many bits."""
+    if not 0 <= number < 1 << bits:
+        raise NoLine(f"{what} {number} isn't of {bits} bits")
+
+
+def number_said(word):
+    """The number that a word is, decimal or as 0x1f."""
+    if not NUMBER.fullmatch(word):
+        raise NoLine(f"no number: {word[:60]!r}")
+    return number_of(word[2:], 16) if word.startswith("0x") else number_of(word)
+
+
+def address_said(word):
+    """The address that a word is, or the bytes, as 0x1f/4."""
+    address, slash, width = word.partition("/")
+    return Bytes(number_said(address), number_said(width)) if slash else number_said(address)
+
+
+def numbers_said(words):
+    """The address or bytes, and the values, that words are."""
+    return [number_said(word) if place else address_said(word) for place, word in enumerate(words)]
+
+
+def is_operation(words):
+    """Whether words are a processor, an operation and as many more as it has."""
+    return len(words) > 1 and len(words) - 2 in OPERATIONS.get(words[1], ())
+
+
+def is_frame(log, words):
+    """Takes the words of a line that is no operation, `model pso`, `init A V` or `end`. Whether they were one."""
+    if log.is_ended:
+        raise NoLine("a line after `end`")
+    if words == ["end"]:
+        log.is_ended = True
+    elif words == ["model", "pso"]:
+        log.model = "pso"
+    elif words[0] == "init" and len(words) == 3:
+        log.add_first(*numbers_said(words[1:]))
+    else:
+        return False
+    return True
 
 
 def parser_of(name, description):
