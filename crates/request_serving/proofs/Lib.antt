@@ -2,6 +2,7 @@ pub mod AskedFacts
 pub mod BatchingFacts
 pub mod EndFacts
 pub mod FileFacts
+pub mod FollowingFacts
 pub mod LawfulFacts
 pub mod LoggingFacts
 pub mod OutcomeFacts

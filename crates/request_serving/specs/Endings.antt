@@ -17,6 +17,9 @@ use Rattle.trace_reports.specs.declared.answers.Answer.{Answer}
 use Rattle.request_options.specs.declared.logs.LogOptions.{LogOptions}
 use Rattle.log_reports.specs.LogReports.{IsLogReportOfReader}
 use Rattle.outcome_reports.specs.Outcomes.{IsOutcomesOfReader}
+use Rattle.run_following.specs.Reports.{IsRunReportOfReader}
+use Rattle.run_following.specs.Words.{run_refused_in_words, run_words}
+use Rattle.request_options.specs.declared.following.FollowOptions.{FollowOptions}
 use Rattle.outcome_reports.specs.SeenTraces.{IsSeenOfReaders}
 use Rattle.request_serving.specs.Batches.{AreTextsOfBatch}
 use Rattle.run_serving.specs.Campaigning.{IsCampaignText, LeavesCampaignText}
@@ -40,7 +43,7 @@ use Rattle.command_line.specs.declared.requests.Request.TheVariants.{Show, Refus
 use Rattle.command_line.specs.Commands.{IsAskedFor}
 use Rattle.command_line.specs.Refusals.{Refuses}
 use Rattle.command_line.specs.Spellings.{Asks, AsksHelp}
-use Rattle.command_line.specs.Requests.{Asked, Text, judging, deciding, reducing, batching, logging, checking, verifying, listing, counting, replaying, running, repeating, making, campaigning, showing, refusing}
+use Rattle.command_line.specs.Requests.{Asked, Text, judging, deciding, reducing, batching, logging, following, checking, verifying, listing, counting, replaying, running, repeating, making, campaigning, showing, refusing}
 
 -- ---- the lines of faults
 
@@ -128,7 +131,11 @@ EndsWithNotes {X} is_text status_by o status =
 abbrev pub IsLogged : LogOptions → Option (List ℕ) → List ℕ → Answer → Type 0
 IsLogged options remaining text answer = IsLogReportOfReader (logged_as options.form) (log_refused_as options.form) options remaining text answer
 
--- that text, and beside it notes
+-- the report on the run that a reader's bytes spell, as far as it is followed, or the line of their refusal
+abbrev pub IsFollowedRun : FollowOptions → Option (List ℕ) → List ℕ → Answer → Type 0
+IsFollowedRun options remaining text answer = IsRunReportOfReader run_words run_refused_in_words options remaining text answer
+
+-- what is said of a log, and beside it notes
 abbrev pub EndsLogged : LogOptions → Option (List ℕ) → Outputs → ℕ → Type 0
 EndsLogged options remaining o status = EndsWithNotes (IsLogged options remaining) status_of_answer o status
 
@@ -176,6 +183,7 @@ EndsAsAsked (deciding presentation file workers nth effort) input files o status
 EndsAsAsked (reducing file nth) input files o status = EndsWithNotes (IsReduced nth (text_bytes file input files)) status_of o status
 EndsAsAsked (batching texts workers printing) input files o status = EndsBatched printing (AreTextsOfBatch texts input files) o status
 EndsAsAsked (logging file options) input files o status = EndsLogged options (text_bytes file input files) o status
+EndsAsAsked (following file options) input files o status = EndsWithoutThread (IsFollowedRun options (text_bytes file input files)) status_of_answer o status
 EndsAsAsked (checking trace certificate nth) input files o status = EndsWithoutThread (IsCheckOfNth nth (text_bytes trace input files) (text_bytes certificate input files)) status_of o status
 EndsAsAsked (verifying trace evidence nth) input files o status =
     EndsWithoutThread (IsVerificationOfNth nth (text_bytes trace input files) (text_bytes evidence input files)) status_of_answer o status

@@ -3,7 +3,7 @@ use Rattle.std.specs.Prelude.{◌≡◌, ◌⊎◌, ℕ, Bool, ◌≤◌, List, 
 use Rattle.std.specs.List.{list_all}
 use Rattle.std.specs.Borrow.{Bor}
 use Rattle.std.specs.Io.KnownBytes.{Consumes}
-use Rattle.command_line.specs.Requests.{Asked, batching, checking, counting, deciding, judging, logging, needs, reducing, replaying, verifying}
+use Rattle.command_line.specs.Requests.{Asked, batching, checking, counting, deciding, following, judging, logging, needs, reducing, replaying, verifying}
 use Rattle.request_texts.specs.NthTraces.{IsRefusedNth, TakesTrace}
 use Rattle.trace_judging.specs.Limits.{certificate_read_limit}
 use Rattle.trace_streams.specs.Limits.{trace_read_limit}
@@ -28,12 +28,13 @@ opened_bytes (Some remaining) input = remaining
 abbrev pub reads_input : Asked → Bool
 reads_input asked = not (list_all is_some (needs asked).texts)
 
--- What is taken of standard input where it is read: of traces that stand one after the other and of a log all bytes, or of the traces some of the first
+-- What is taken of standard input where it is read: of a run some of the first bytes; of traces that stand one after the other and of a log all bytes, or of the traces some of the first
 -- where one alone is asked for; of another text so many that one of too many bytes is seen; or nothing of a certificate, of evidence, of a schedule or of a stream
 -- of traces, where the trace or the program before it was refused.
 abbrev pub TakesInput : Asked → Option (List ℕ) → Option (List ℕ) → Type 0
 TakesInput (batching texts workers printing) old new = IfSome old (λ all. Consumes old new all)
 TakesInput (logging file options) old new = IfSome old (λ all. Consumes old new all)
+TakesInput (following file options) old new = (bytes : List ℕ) × Consumes old new bytes
 TakesInput (judging presentation file workers nth) old new = TakesTrace nth old new
 TakesInput (deciding presentation file workers nth effort) old new = TakesTrace nth old new
 TakesInput (reducing file nth) old new = TakesTrace nth old new

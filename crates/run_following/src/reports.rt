@@ -1,7 +1,8 @@
 //! From the bytes of a run to its report.
-ghost use Rattle.std.specs.Prelude.{◌≡◌, List, ℕ, IfOk, IfErr, string_bytes};
+ghost use Rattle.std.specs.Prelude.{◌≡◌, ◌≢◌, List, ℕ, IfOk, IfErr, string_bytes};
 ghost use Rattle.std.specs.Io.KnownBytes.{Consumes};
 ghost use Rattle.text_streams.specs.WrittenTexts.{LeavesAtFault, WritesWhole};
+ghost use Rattle.text_streams.specs.declared.faults.Fault.TheVariants.{NoThread};
 ghost use Rattle.request_options.specs.declared.following.FollowOptions.{FollowOptions};
 ghost use Rattle.run_following.specs.Internal.Endings.{EndsText, IsEnding, refusal_of_stop};
 ghost use Rattle.run_following.specs.Internal.Faults.{IsRunFault};
@@ -46,6 +47,7 @@ pub fn follow_run<P: Rendering<(), RunFound>, R: Read, W: Write>(
         (IsRunReportOfReader (P.rendered rendering.now tt) (P.refused rendering.now) options (R.remaining reader.old))
         (W.contents writer.old) (W.contents writer.new)) }
     ensures taken { IfOk result (λ _. (bytes : List ℕ) × Consumes (R.remaining reader.old) (R.remaining reader.new) bytes) }
+    ensures no_thread { IfErr result (λ fault. fault ≢ NoThread) }
     ensures left { IfErr result (LeavesAtFault
         (IsRunReportOfReader (P.rendered rendering.now tt) (P.refused rendering.now) options (R.remaining reader.old))
         (W.contents writer.old) (W.contents writer.new)) }

@@ -1,7 +1,7 @@
 use Rattle.command_line.specs.Requests.{asked_of, files_of}
 use Rattle.text_streams.specs.WrittenTexts.{LeavesAtFault}
 use Rattle.request_serving.specs.Deciding.{IsDecided}
-use Rattle.request_serving.specs.Endings.{IsLogged, IsVerdictAsAsked, Outputs, outputs}
+use Rattle.request_serving.specs.Endings.{IsFollowedRun, IsLogged, IsVerdictAsAsked, Outputs, outputs}
 use Rattle.request_texts.specs.OpenedFiles.{name_in, text_bytes}
 use Rattle.run_serving.specs.Replaying.{IsReplayText}
 use Rattle.trace_reports.specs.Statuses.{status_of, status_of_answer}
@@ -147,6 +147,26 @@ returns-in-Replay-clause-no_false_alarm_of_text g c = λ lawful. known_status (a
 
 pub returns-in-Run-clause-no_false_alarm_of_text : goal.returns-in-Run-clause-no_false_alarm_of_text
 returns-in-Run-clause-no_false_alarm_of_text g c = λ lawful. known_status (asked_of c.args.request.now) _ _ _ _ (returns-in-Run-clause-ends g c) lawful
+
+pub returns-in-Follow-clause-ends : goal.returns-in-Follow-clause-ends
+returns-in-Follow-clause-ends g c =
+    let o : Outputs = outputs (g.W.Write.contents c.args.writer.now) (g.W.Write.contents c.follow_named-followed.new.writer) (g.E.Write.contents c.args.errors.now) (g.E.Write.contents c.end_answer-in-Follow.new.errors) in
+    let request = c.in-Follow.request in
+    let is_text = IsFollowedRun request.options (text_bytes (name_in request.file) (g.R.Read.remaining c.args.reader.now) (g.O.Environment.bytes c.args.files.now)) in
+    let followed = c.follow_named-followed in
+    let ended = c.end_answer-in-Follow in
+    rw c.in-Follow.is (ends_as is_text status_of_answer (λ old new fault. (fault ≢ NoThread) × LeavesAtFault is_text old new fault) o followed.result ended.result followed.ensures.whole
+    (without_thread is_text _ _ followed.result followed.ensures.no_thread followed.ensures.fault) ended.ensures.answer ended.ensures.fault)
+
+pub returns-in-Follow-clause-first : goal.returns-in-Follow-clause-first
+returns-in-Follow-clause-first g c = rw c.in-Follow.is (opens_all _ _ _ c.follow_named-followed.ensures.opened)
+
+pub returns-in-Follow-clause-unread : goal.returns-in-Follow-clause-unread
+returns-in-Follow-clause-unread g c = rw c.in-Follow.is (λ unread. named c.in-Follow.request.file c.follow_named-followed.ensures.unread unread)
+
+pub returns-in-Follow-clause-taken : goal.returns-in-Follow-clause-taken
+returns-in-Follow-clause-taken g c = rw c.in-Follow.is (λ reads other.
+    at_text c.follow_named-followed.result c.end_answer-in-Follow.result _ _ _ c.end_answer-in-Follow.ensures.fault (c.follow_named-followed.ensures.taken (unnamed c.in-Follow.request.file reads)) other)
 
 pub returns-in-Outcomes-clause-ends : goal.returns-in-Outcomes-clause-ends
 returns-in-Outcomes-clause-ends g c =

@@ -1,0 +1,13 @@
+use Rattle.text_streams.proofs.StreamFacts.{faults_as, writes_as}
+use Rattle.request_serving.proofs.FollowingFacts.{followed_of_known}
+use Rattle.request_serving.proofs.serving.following.follow_named.Goals as goal
+
+pub returns-in_ok-file-in-Some-clause-whole : goal.returns-in_ok-file-in-Some-clause-whole
+returns-in_ok-file-in-Some-clause-whole g c =
+    let followed = c.follow_run-in-Some in
+    rw c.in-Some.is (writes_as _ _ (followed_of_known c.args.request.now.options _ _ c.in_ok-file-in-Some.ensures.known) _ _ followed.result followed.ensures.report)
+
+pub returns-in_ok-file-in-Some-clause-fault : goal.returns-in_ok-file-in-Some-clause-fault
+returns-in_ok-file-in-Some-clause-fault g c =
+    let followed = c.follow_run-in-Some in
+    rw c.in-Some.is (faults_as _ _ (followed_of_known c.args.request.now.options _ _ c.in_ok-file-in-Some.ensures.known) _ _ followed.result followed.ensures.left)
