@@ -3,25 +3,25 @@ ghost use Rattle.std.specs.Prelude.{◌≡◌, ◌++◌, [], map, IfOk, OnOk};
 ghost use Rattle.std.specs.List.{list_any};
 ghost use Rattle.run_steps.specs.Reads.{compared, is_origin, memory_of_cells, origins_in, read_in, refusal_of, sees, value_refusals, with_origin};
 
-use crate::cells::{Cell, cell_at};
+use crate::blocks::MemoryCells;
+use crate::cells::Cell;
 use crate::places::Place;
 use crate::processors::{WaitingStore, newest_over};
 use crate::refusals::{CellContent, Comparison, Origin, RunRefusal};
 use std::alloc::Global;
-use std::collections::HashMap;
 use tso_ops::OutOfMemory;
 
 /// Memory, and stores that wait before it.
 #[derive(Clone, Copy)]
 pub(crate) struct View<'a> {
-    pub(crate) cells: &'a HashMap<u64, Cell>,
+    pub(crate) memory: &'a MemoryCells,
     pub(crate) waiting: &'a [WaitingStore],
 }
 
 impl<'a> View<'a> {
     /// What is seen in a cell: what the newest store that waits has there, or else what memory holds. None where that isn't known.
     fn look(&self, cell: u64) -> Option<CellContent>
-        ensures { result ≡ sees (memory_of_cells self.now.cells.now) self.now.waiting.now cell }
+        ensures { result ≡ sees (memory_of_cells self.now.memory.now) self.now.waiting.now cell }
     {
         if let Some(waiting) = newest_over(self.waiting, cell) {
             let number = cell.saturating_sub(waiting.place.address);
@@ -30,7 +30,7 @@ impl<'a> View<'a> {
                 origin: Origin::Waiting(waiting.store),
             });
         }
-        match cell_at(self.cells, cell) {
+        match self.memory.cell(cell) {
             Cell::First(value) => Some(CellContent {
                 value,
                 origin: Origin::First,
@@ -52,7 +52,7 @@ impl<'a> View<'a> {
 
     /// The value that is read at a place. None where some of it isn't known.
     pub(crate) fn read(&self, place: Place) -> Option<u64>
-        ensures { result ≡ read_in place (sees (memory_of_cells self.now.cells.now) self.now.waiting.now) }
+        ensures { result ≡ read_in place (sees (memory_of_cells self.now.memory.now) self.now.waiting.now) }
     {
         if place.width == 0 {
             return match self.look(place.address) {
@@ -72,7 +72,7 @@ impl<'a> View<'a> {
 
     /// Where the value at a place is from, each once, by ascending byte. OutOfMemory where an allocation was refused.
     fn origins(&self, alloc: Global, place: Place) -> Result<Vec<Origin>, OutOfMemory>
-        ensures { IfOk result (λ origins. origins.items ≡ origins_in place (sees (memory_of_cells self.now.cells.now) self.now.waiting.now)) }
+        ensures { IfOk result (λ origins. origins.items ≡ origins_in place (sees (memory_of_cells self.now.memory.now) self.now.waiting.now)) }
     {
         let mut origins = Vec::new(alloc);
         for i in 0..place.cells() {
@@ -90,8 +90,8 @@ impl<'a> View<'a> {
         refusals: &mut Vec<RunRefusal>,
     ) -> Result<Comparison, OutOfMemory>
         ensures found { OnOk result (map refusal_of refusals.new.items ≡ map refusal_of refusals.old.items ++
-            value_refusals place (sees (memory_of_cells self.now.cells.now) self.now.waiting.now) said) }
-        ensures compared { IfOk result (λ comparison. comparison ≡ compared place (sees (memory_of_cells self.now.cells.now) self.now.waiting.now)) }
+            value_refusals place (sees (memory_of_cells self.now.memory.now) self.now.waiting.now) said) }
+        ensures compared { IfOk result (λ comparison. comparison ≡ compared place (sees (memory_of_cells self.now.memory.now) self.now.waiting.now)) }
     {
         let Some(has) = self.read(place) else {
             return Ok(Comparison::Unknown);

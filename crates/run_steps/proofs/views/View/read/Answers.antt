@@ -29,7 +29,7 @@ loop-i-preserved-in-Some-Some c =
     let one_more : c.args.place.width - (c.loop-i.i - 1) ≡ suc left = omega (arith, c.loop-i-test.true, c.loop-i.auto.i) in
     record {
       value =
-          byte_read c.args.place.width (sees (memory_of_cells c.args.self.now.cells.now) c.args.self.now.waiting.now) c.args.place.address c.loop-i.i c.in-Some-Some.above c.in-Some-Some.seen c.if-place-eq0.false c.loop-i-test.true
+          byte_read c.args.place.width (sees (memory_of_cells c.args.self.now.memory.now) c.args.self.now.waiting.now) c.args.place.address c.loop-i.i c.in-Some-Some.above c.in-Some-Some.seen c.if-place-eq0.false c.loop-i-test.true
           c.loop-i.auto.i (sym c.look-in-loop-i.ensures ∙ c.in-Some-Some.is-0) (sym c.in-Some-Some.is-1 ∙ c.loop-i.invariant.value);
       small = byte_below (c.args.place.width - (c.loop-i.i - 1)) left byte c.in-Some-Some.above one_more (omega arith) least;
     }
