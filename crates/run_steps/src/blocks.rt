@@ -1,9 +1,10 @@
 //! Memory: locations one by one, and bytes in blocks of eight, so that most accesses look up one thing.
-ghost use Rattle.std.specs.Prelude.{◌≡◌, ◌*◌, ◌/◌, [], ◌+◌, ◌%◌, ◌≤◌, ◌<◌, ℕ, OnOk, get_or, length, map, nat_eq, set};
+ghost use Rattle.std.specs.Prelude.{◌≡◌, ◌≢◌, Option, ◌*◌, ◌/◌, [], ◌+◌, ◌%◌, ◌≤◌, ◌<◌, ℕ, IfSome, OnOk, get_or, length, map, nat_eq, set};
 ghost use Rattle.std.specs.Map.{lookup};
 ghost use Rattle.run_steps.specs.declared.cells.Cell.TheVariants.{First};
+ghost use Rattle.run_steps.specs.declared.refusals.CellContent.{CellContent};
 ghost use Rattle.run_steps.specs.Places.{cell_count, cell_parts};
-ghost use Rattle.run_steps.specs.Reads.{cell_in, filled, location_in, memory_in, memory_of_cells, with_cell, with_cells, written_in};
+ghost use Rattle.run_steps.specs.Reads.{cell_in, filled, location_in, memory_in, memory_of_cells, read_in, seen_in, with_cell, with_cells, written_in};
 
 use crate::cells::{Cell, Written, cell_of};
 use crate::places::{Place, low_part};
@@ -48,6 +49,13 @@ impl MemoryCells {
         }
     }
 
+    /// The block of an address. None where only locations were written into.
+    pub(crate) fn block(&self, address: u64) -> Option<&Block>
+        ensures { IfSome result (λ block. (i : ℕ) → address % 8 + i < 8 → memory_of_cells self.now (address + i) ≡ get_or block.now.cells (address % 8 + i) (First 0)) }
+    {
+        self.blocks.get(&(address / 8))
+    }
+
     /// Writes a value into the cells of a place. OutOfMemory where an allocation was refused.
     pub(crate) fn fill(
         &mut self,
@@ -65,6 +73,27 @@ impl MemoryCells {
         } else {
             fill_cells(&self.locations, &mut self.blocks, place, value, written)
         }
+    }
+}
+
+impl Block {
+    /// The value that is read at a place of bytes which lie in this block. None where some of it isn't known.
+    pub(crate) fn read(&self, place: Place) -> Option<u64>
+        requires bytes { place.width ≢ 0 }
+        requires within { place.address % 8 + place.width ≤ 8 }
+        ensures { (look : ℕ → Option CellContent) →
+            ((i : ℕ) → i < place.width → look (place.address + i) ≡ seen_in (get_or self.now.cells (place.address % 8 + i) (First 0))) →
+            result ≡ read_in place look }
+    {
+        let start = place.address % 8;
+        let mut value = Some(0);
+        for i in (0..place.width).rev() {
+            value = match (self.cells[(start + i) as usize].value(), value) {
+                (Some(byte), Some(above)) => Some(byte % 256 + 256 * above),
+                _ => None,
+            };
+        }
+        value
     }
 }
 

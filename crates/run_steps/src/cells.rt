@@ -1,6 +1,6 @@
 //! What a cell of memory holds, and what is written into it.
-ghost use Rattle.std.specs.Prelude.{◌≡◌};
-ghost use Rattle.run_steps.specs.Reads.{written_in};
+ghost use Rattle.std.specs.Prelude.{◌≡◌, option_map};
+ghost use Rattle.run_steps.specs.Reads.{seen_in, written_in};
 
 /// What memory holds in a byte or a location.
 #[derive(Clone, Copy, Debug, PartialEq, Eq)]
@@ -17,6 +17,18 @@ pub enum Cell {
     },
     /// Something that isn't known.
     Unknown,
+}
+
+impl Cell {
+    /// The value that is seen. None where it isn't known.
+    pub(crate) fn value(&self) -> Option<u64>
+        ensures { result ≡ option_map (λ seen. seen.value) (seen_in self.now) }
+    {
+        match *self {
+            Cell::First(value) | Cell::Stored { value, .. } => Some(value),
+            Cell::Unknown => None,
+        }
+    }
 }
 
 /// What is written into memory, beside the value.

@@ -84,7 +84,7 @@ pub(crate) fn newest_over(waiting: &[WaitingStore], cell: u64) -> Option<Waiting
 }
 
 /// The oldest of the stores that shares a cell with a place.
-fn oldest_over(waiting: &[WaitingStore], place: Place) -> Option<WaitingStore>
+pub(crate) fn oldest_over(waiting: &[WaitingStore], place: Place) -> Option<WaitingStore>
     ensures { result ≡ find (λ w. overlaps w.place place) waiting.now }
 {
     for store in waiting {

@@ -1,12 +1,14 @@
 //! What a processor sees of memory and of the stores that wait in its buffer.
-ghost use Rattle.std.specs.Prelude.{◌≡◌, ◌++◌, [], map, IfOk, OnOk};
+ghost use Rattle.std.specs.Prelude.{◌≡◌, ◌≢◌, ◌++◌, ◌+◌, ◌%◌, ◌≤◌, ◌<◌, ℕ, [], get_or, map, IfOk, IfSome, OnOk};
+ghost use Rattle.run_steps.specs.declared.cells.Cell.TheVariants.{First};
+ghost use Rattle.run_steps.specs.Places.{cell_count};
 ghost use Rattle.std.specs.List.{list_any};
-ghost use Rattle.run_steps.specs.Reads.{compared, is_origin, memory_of_cells, origins_in, read_in, refusal_of, sees, value_refusals, with_origin};
+ghost use Rattle.run_steps.specs.Reads.{compared, is_origin, memory_of_cells, origins_in, read_in, refusal_of, seen_in, sees, value_refusals, with_origin};
 
-use crate::blocks::MemoryCells;
+use crate::blocks::{Block, MemoryCells};
 use crate::cells::Cell;
 use crate::places::Place;
-use crate::processors::{WaitingStore, newest_over};
+use crate::processors::{WaitingStore, newest_over, oldest_over};
 use crate::refusals::{CellContent, Comparison, Origin, RunRefusal};
 use std::alloc::Global;
 use tso_ops::OutOfMemory;
@@ -60,6 +62,30 @@ impl<'a> View<'a> {
                 None => None,
             };
         }
+        match self.block(place) {
+            Some(block) => block.read(place),
+            None => self.read_bytes(place),
+        }
+    }
+
+    /// The block in which all bytes of a place are seen. None where there isn't one, or where a store that waits has one of them.
+    fn block(&self, place: Place) -> Option<&Block>
+        ensures within { IfSome result (λ block. place.address % 8 + cell_count place ≤ 8) }
+        ensures seen { IfSome result (λ block. (i : ℕ) → i < cell_count place →
+            sees (memory_of_cells self.now.memory.now) self.now.waiting.now (place.address + i) ≡
+            seen_in (get_or block.now.cells (place.address % 8 + i) (First 0))) }
+    {
+        if place.address % 8 + place.cells() > 8 || oldest_over(self.waiting, place).is_some() {
+            return None;
+        }
+        self.memory.block(place.address)
+    }
+
+    /// The value that is read at a place of bytes, one by one. None where some of it isn't known.
+    fn read_bytes(&self, place: Place) -> Option<u64>
+        requires { place.width ≢ 0 }
+        ensures { result ≡ read_in place (sees (memory_of_cells self.now.memory.now) self.now.waiting.now) }
+    {
         let mut value = Some(0);
         for i in (0..place.width).rev() {
             value = match (self.look(place.address + i), value) {

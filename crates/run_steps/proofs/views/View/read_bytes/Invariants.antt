@@ -1,6 +1,6 @@
 use Rattle.std.proofs.Common.{◌≡◌, ◌<◌, ◌+◌, ◌-◌, ◌^◌, IfSome}
 use Rattle.run_steps.specs.Reads.{memory_of_cells, read_from, sees}
-use Rattle.run_steps.proofs.views.View.read.Given as goal
+use Rattle.run_steps.proofs.views.View.read_bytes.Given as goal
 
 abbrev pub invariant-loop-i : goal.invariant-loop-i
 invariant-loop-i l = record {
