@@ -32,7 +32,7 @@ nothing_before (x ∷ xs) ys e = absurd (cons_not x (xs ++ ys) e)
 pub nothing_after : {X : Type 0} {xs ys : List X} → xs ≡ [] → ys ≡ [] → xs ++ ys ≡ []
 nothing_after {ys = ys} none others = ap (λ zs. zs ++ ys) none ∙ others
 
-pub none_found : {X : Type 0} (b : Bool) (x : X) (o : Option X) → cond b (Some x) o ≡ None → (b ≡ false) × (o ≡ None)
+none_found : {X : Type 0} (b : Bool) (x : X) (o : Option X) → cond b (Some x) o ≡ None → (b ≡ false) × (o ≡ None)
 none_found true x o e = absurd (none-some x (sym e))
 none_found false x o e = (refl, e)
 

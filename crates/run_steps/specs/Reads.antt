@@ -18,7 +18,7 @@ use Rattle.run_steps.specs.declared.refusals.Origin.TheVariants as origin
 use Rattle.run_steps.specs.declared.refusals.RunRefusal.{RunRefusal}
 use Rattle.run_steps.specs.declared.refusals.RunRefusal.TheVariants as refusal
 use Rattle.run_steps.specs.declared.refusals.CellContent.{CellContent}
-use Rattle.run_steps.specs.Places.{cell_count, covers, cell_parts}
+use Rattle.run_steps.specs.Places.{cell_count, covers, overlaps, cell_parts}
 use Rattle.run_steps.specs.Widths.{low_part}
 
 -- ---- memory
@@ -69,6 +69,11 @@ written_in written.Unknown part = Unknown
 abbrev pub newest_over : List WaitingStore → ℕ → Option WaitingStore → Option WaitingStore
 newest_over [] cell other = other
 newest_over (w ∷ waiting) cell other = newest_over waiting cell (cond (covers w.place cell) (Some w) other)
+
+-- the newest of the stores that shares a cell with the place, or else the given one
+abbrev pub newest_sharing : List WaitingStore → Place → Option WaitingStore → Option WaitingStore
+newest_sharing [] place other = other
+newest_sharing (w ∷ waiting) place other = newest_sharing waiting place (cond (overlaps w.place place) (Some w) other)
 
 -- what is seen of a cell of memory
 abbrev pub seen_in : Cell → Option CellContent

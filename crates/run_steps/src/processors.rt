@@ -3,7 +3,7 @@ ghost use Rattle.std.specs.Prelude.{◌≡◌, ◌<◌, ◌-◌, ◌++◌, suc, 
 ghost use Rattle.std.specs.List.{find, position};
 ghost use Rattle.run_steps.specs.Machine.{processors_after, drained_number, idle, keeps_back, losing, oldest_waiting, processor_state, with_store, without_reserved};
 ghost use Rattle.run_steps.specs.Places.{is_place, overlaps};
-ghost use Rattle.run_steps.specs.Reads.{newest_over};
+ghost use Rattle.run_steps.specs.Reads.{newest_over, newest_sharing};
 
 use crate::places::Place;
 use std::alloc::Global;
@@ -83,8 +83,21 @@ pub(crate) fn newest_over(waiting: &[WaitingStore], cell: u64) -> Option<Waiting
     newest
 }
 
+/// The newest of the stores that shares a cell with a place.
+pub(crate) fn newest_sharing(waiting: &[WaitingStore], place: Place) -> Option<WaitingStore>
+    ensures { result ≡ newest_sharing waiting.now place None }
+{
+    let mut newest = None;
+    for store in waiting {
+        if store.place.overlaps(&place) {
+            newest = Some(*store);
+        }
+    }
+    newest
+}
+
 /// The oldest of the stores that shares a cell with a place.
-pub(crate) fn oldest_over(waiting: &[WaitingStore], place: Place) -> Option<WaitingStore>
+fn oldest_over(waiting: &[WaitingStore], place: Place) -> Option<WaitingStore>
     ensures { result ≡ find (λ w. overlaps w.place place) waiting.now }
 {
     for store in waiting {

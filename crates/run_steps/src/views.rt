@@ -1,14 +1,14 @@
 //! What a processor sees of memory and of the stores that wait in its buffer.
-ghost use Rattle.std.specs.Prelude.{◌≡◌, ◌≢◌, ◌++◌, ◌+◌, ◌%◌, ◌≤◌, ◌<◌, ℕ, [], get_or, map, IfOk, IfSome, OnOk};
+ghost use Rattle.std.specs.Prelude.{◌≡◌, ◌≢◌, None, ◌++◌, ◌+◌, ◌%◌, ◌≤◌, ◌<◌, ℕ, [], get_or, map, IfOk, IfSome, OnOk};
 ghost use Rattle.run_steps.specs.declared.cells.Cell.TheVariants.{First};
 ghost use Rattle.run_steps.specs.Places.{cell_count};
 ghost use Rattle.std.specs.List.{list_any};
-ghost use Rattle.run_steps.specs.Reads.{compared, is_origin, memory_of_cells, origins_in, read_in, refusal_of, seen_in, sees, value_refusals, with_origin};
+ghost use Rattle.run_steps.specs.Reads.{compared, is_origin, memory_of_cells, newest_sharing, origins_in, read_in, refusal_of, seen_in, sees, value_refusals, with_origin};
 
 use crate::blocks::{Block, MemoryCells};
 use crate::cells::Cell;
-use crate::places::Place;
-use crate::processors::{WaitingStore, newest_over, oldest_over};
+use crate::places::{Place, fits};
+use crate::processors::{WaitingStore, newest_over, newest_sharing};
 use crate::refusals::{CellContent, Comparison, Origin, RunRefusal};
 use std::alloc::Global;
 use tso_ops::OutOfMemory;
@@ -62,20 +62,36 @@ impl<'a> View<'a> {
                 None => None,
             };
         }
+        match newest_sharing(self.waiting, place) {
+            None => self.read_memory(place),
+            Some(store) if store.place.is(&place) && fits(place.width, store.value) => {
+                Some(store.value)
+            },
+            Some(_) => self.read_bytes(place),
+        }
+    }
+
+    /// The value that is read at a place of bytes over which no store waits. None where some of it isn't known.
+    fn read_memory(&self, place: Place) -> Option<u64>
+        requires bytes { place.width ≢ 0 }
+        requires alone { newest_sharing self.now.waiting.now place None ≡ None }
+        ensures { result ≡ read_in place (sees (memory_of_cells self.now.memory.now) self.now.waiting.now) }
+    {
         match self.block(place) {
             Some(block) => block.read(place),
             None => self.read_bytes(place),
         }
     }
 
-    /// The block in which all bytes of a place are seen. None where there isn't one, or where a store that waits has one of them.
+    /// The block in which all bytes of a place are seen over which no store waits. None where there isn't one.
     fn block(&self, place: Place) -> Option<&Block>
+        requires { newest_sharing self.now.waiting.now place None ≡ None }
         ensures within { IfSome result (λ block. place.address % 8 + cell_count place ≤ 8) }
         ensures seen { IfSome result (λ block. (i : ℕ) → i < cell_count place →
             sees (memory_of_cells self.now.memory.now) self.now.waiting.now (place.address + i) ≡
             seen_in (get_or block.now.cells (place.address % 8 + i) (First 0))) }
     {
-        if place.address % 8 + place.cells() > 8 || oldest_over(self.waiting, place).is_some() {
+        if place.address % 8 + place.cells() > 8 {
             return None;
         }
         self.memory.block(place.address)
