@@ -1,3 +1,4 @@
+pub mod BlockFacts
 pub mod MemoryFacts
 pub mod PartFacts
 pub mod ReadFacts

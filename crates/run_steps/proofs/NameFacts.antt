@@ -1,9 +1,10 @@
 -- Lemmas on which stores states and refusals name.
-use Rattle.std.proofs.Common.{◌≡◌, ◌<◌, subst, arith, ◌+◌, ◌-◌, ◌==◌, ◌++◌, ℕ, zero, suc, Bool, true, false, cond, List, [], ◌∷◌, length, map, set, get_or, take, drop, replicate, nat_eq, Option, None, Some, IfSome, slice_get, option_map, unwrap_or, IsTrue}
+use Rattle.std.proofs.Common.{◌≡◌, ◌<◌, subst, arith, ◌+◌, ◌-◌, ◌/◌, ◌%◌, ◌==◌, ◌++◌, ℕ, zero, suc, Bool, true, false, cond, List, [], ◌∷◌, length, map, set, get_or, take, drop, replicate, nat_eq, Option, None, Some, IfSome, slice_get, option_map, unwrap_or, IsTrue}
 use Rattle.std.specs.List.{AllByRecursion, find, list_any, remove}
 use Rattle.std.specs.Option.{option_map_or}
 use Rattle.std.specs.Map.{lookup, values_of}
 use Rattle.tso_ops.specs.declared.settings.Order.{Order}
+use Rattle.run_steps.specs.declared.blocks.Block.{Block}
 use Rattle.run_steps.specs.declared.cells.Cell.{Cell}
 use Rattle.run_steps.specs.declared.cells.Cell.TheVariants as memory
 use Rattle.run_steps.specs.declared.cells.Written.TheVariants as written
@@ -18,9 +19,9 @@ use Rattle.run_steps.specs.declared.steps.RunLine.{RunLine}
 use Rattle.run_steps.specs.declared.steps.RunStep.{RunStep}
 use Rattle.run_steps.specs.declared.steps.RunStep.TheVariants.{Load, Store, Drain, Write, Swap, Reserve, StoreReserved, Membar, Stbar, Unknown, Last}
 use Rattle.run_steps.specs.Machine.{ProcessorState, MachineState, admitted, beginning_state, drain_refusals, drained_number, drained_refusals, draining, emptied, idle, keeps_back, line_refusals, losing, next_state, oldest_waiting, order_refusals, processor_in, processors_after, reaching, reaching_all, reservation_refusals, state_after_line, step_refusals, storing, view_of, waiting_refusals, waits_of, with_processor, with_reserved, with_store, with_waits, without_reserved}
-use Rattle.run_steps.specs.Names.{CellNames, OriginNames, ProcessorNames, RefusalNames, StateNames}
+use Rattle.run_steps.specs.Names.{BlockNames, CellNames, OriginNames, ProcessorNames, RefusalNames, StateNames}
 use Rattle.run_steps.specs.Places.{cell_count, cell_parts, covers, lies_in, overlaps}
-use Rattle.run_steps.specs.Reads.{Memory, RefusalValue, differing, filled, is_origin, newest_over, no_reservation, nothing_waits, order, origins_from, origins_in, read_in, reservation, seen_before, seen_in, sees, value, value_refusals, waiting, with_cell, with_origin, written_in}
+use Rattle.run_steps.specs.Reads.{Memory, RefusalValue, cell_in, differing, filled, is_origin, newest_over, no_reservation, nothing_waits, order, origins_from, origins_in, read_in, reservation, seen_before, seen_in, sees, value, value_refusals, waiting, with_cell, with_origin, written_in}
 
 -- ---- lists
 
@@ -94,20 +95,35 @@ module _ (among : ℕ → Bool) where
   cell_either true cell other one two = one
   cell_either false cell other one two = two
 
-  first_names : (b : Bool) (cell : Cell) (o : Option Cell) → CellNames among cell → CellNames among (unwrap_or o (memory.First 0)) → CellNames among (unwrap_or (cond b (Some cell) o) (memory.First 0))
-  first_names true cell o one others = one
-  first_names false cell o one others = others
-
   filled_names : (memory : Memory) (address : ℕ) (cell : ℕ → Cell) (parts : List ℕ) → ((a : ℕ) → CellNames among (memory a)) → ((part : ℕ) → CellNames among (cell part)) →
       (a : ℕ) → CellNames among (filled memory address (map cell parts) a)
   filled_names memory address cell [] names each a = names a
   filled_names memory address cell (part ∷ parts) names each a =
       filled_names (with_cell memory address (cell part)) (address + 1) cell parts (λ q. cell_either (nat_eq address q) (cell part) (memory q) (each part) (names q)) each a
 
-  -- what memory holds is a value of the map, or nothing was written there
-  pub lookup_names : (es : List (ℕ × Cell)) (a : ℕ) → AllByRecursion (CellNames among) (values_of es) → CellNames among (unwrap_or (lookup (nat_eq a) es) (memory.First 0))
-  lookup_names [] a all = tt
-  lookup_names (e ∷ es) a all = first_names (nat_eq a e.0) e.1 (lookup (nat_eq a) es) all.0 (lookup_names es a all.1)
+  cells_names : (cells : List Cell) (i : ℕ) → AllByRecursion (CellNames among) cells → CellNames among (get_or cells i (memory.First 0))
+  cells_names cells i all = each_get_or (CellNames among) cells i (memory.First 0) all tt
+
+  first_block : (b : Bool) (block : Block) (o : Option Block) (i : ℕ) (other : Cell) → BlockNames among block → CellNames among (cell_in other o i) → CellNames among (cell_in other (cond b (Some block) o) i)
+  first_block true block o i other one others = cells_names block.cells i one
+  first_block false block o i other one others = others
+
+  first_location : (b : Bool) (cell : Cell) (o : Option Cell) → CellNames among cell → CellNames among (unwrap_or o (memory.First 0)) → CellNames among (unwrap_or (cond b (Some cell) o) (memory.First 0))
+  first_location true cell o one others = one
+  first_location false cell o one others = others
+
+  found_location : (es : List (ℕ × Cell)) (a : ℕ) → AllByRecursion (CellNames among) (values_of es) → CellNames among (unwrap_or (lookup (nat_eq a) es) (memory.First 0))
+  found_location [] a all = tt
+  found_location (e ∷ es) a all = first_location (nat_eq a e.0) e.1 (lookup (nat_eq a) es) all.0 (found_location es a all.1)
+
+  found_block : (es : List (ℕ × Block)) (k i : ℕ) (other : Cell) → CellNames among other → AllByRecursion (BlockNames among) (values_of es) → CellNames among (cell_in other (lookup (nat_eq k) es) i)
+  found_block [] k i other is all = is
+  found_block (e ∷ es) k i other is all = first_block (nat_eq k e.0) e.1 (lookup (nat_eq k) es) i other all.0 (found_block es k i other is all.1)
+
+  -- what memory holds is in a block, or in a location, or nothing was written there
+  pub memory_names : (locations : List (ℕ × Cell)) (blocks : List (ℕ × Block)) → AllByRecursion (CellNames among) (values_of locations) → AllByRecursion (BlockNames among) (values_of blocks) →
+      (a : ℕ) → CellNames among (cell_in (unwrap_or (lookup (nat_eq a) locations) (memory.First 0)) (lookup (nat_eq (a / 8)) blocks) (a % 8))
+  memory_names locations blocks all others a = found_block blocks (a / 8) (a % 8) _ (found_location locations a all) others
 
   -- ---- processors
 

@@ -1,7 +1,7 @@
 -- Lemmas on how values lie in the cells of places.
 use Rattle.std.proofs.Common.{◌≡◌, ◌<◌, ◌≤◌, ◌-◌, ◌/◌, ◌∙◌, refl, ap, ℕ, zero, suc, get_or, arith}
 use Rattle.run_steps.specs.Places.{parts_from}
-use Rattle.run_steps.specs.Widths.{low_part}
+use Rattle.run_steps.specs.Widths.{above_bytes, low_part}
 
 -- past the last cell there is nothing
 pub part-past : (width count value i : ℕ) → count ≤ i → 0 ≡ get_or (parts_from width count value) i 0
@@ -22,3 +22,10 @@ part-next width (suc count) value (suc i) some after =
 pub part-first : (width count value : ℕ) → 0 < count → low_part width value ≡ get_or (parts_from width count value) 0 0
 part-first width zero value some = absurd (omega (arith, some))
 part-first width (suc count) value some = refl
+
+-- of the bytes above which something is left, the lowest and the others
+pub above-next : (count value : ℕ) → 0 < count → above_bytes (count - 1) (value / 256) ≡ above_bytes count value
+above-next zero value some = absurd (omega (arith, some))
+above-next (suc count) value some =
+    let less : suc count - 1 ≡ count = omega arith in
+    ap (λ n. above_bytes n (value / 256)) less

@@ -44,7 +44,7 @@ model_of machine = machine.order
 
 -- what a machine has
 abbrev pub state_of_machine : Machine → MachineState
-state_of_machine machine = record { memory = memory_of_cells machine.cells; processors = map processor_state machine.processors.items }
+state_of_machine machine = record { memory = memory_of_cells machine.memory; processors = map processor_state machine.processors.items }
 
 -- a processor that has done nothing
 abbrev pub idle : ProcessorState

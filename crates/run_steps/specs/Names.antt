@@ -1,6 +1,7 @@
 -- Which stores a state and a refusal name: their lines are among these, which are given by a test of line numbers.
 use Rattle.std.specs.Prelude.{ℕ, Bool, IfSome, IsTrue}
 use Rattle.std.specs.List.{AllByRecursion}
+use Rattle.run_steps.specs.declared.blocks.Block.{Block}
 use Rattle.run_steps.specs.declared.cells.Cell.{Cell}
 use Rattle.run_steps.specs.declared.cells.Cell.TheVariants.{First, Stored, Unknown}
 use Rattle.run_steps.specs.declared.refusals.Origin.{Origin}
@@ -13,6 +14,10 @@ abbrev pub CellNames : (ℕ → Bool) → Cell → Type 0
 CellNames among (First v) = Unit {0}
 CellNames among (Stored v store reached) = IsTrue (among store)
 CellNames among Unknown = Unit {0}
+
+-- the stores that left there what the cells of a block hold
+abbrev pub BlockNames : (ℕ → Bool) → Block → Type 0
+BlockNames among block = AllByRecursion (CellNames among) block.cells
 
 -- the stores that wait, and the one by which the reservation was lost
 pub record ProcessorNames (among : ℕ → Bool) (x : ProcessorState) : Type 0 where

@@ -1,9 +1,11 @@
 -- What memory holds, and what a processor sees of it.
-use Rattle.std.specs.Prelude.{ℕ, zero, suc, ◌+◌, ◌-◌, ◌*◌, ◌==◌, ◌&&◌, Bool, true, false, nat_eq, cond, List, [], ◌∷◌, ◌++◌, Option, None, Some, get_or, unwrap_or, if◌then◌else◌}
+use Rattle.std.specs.Prelude.{ℕ, zero, suc, ◌+◌, ◌-◌, ◌*◌, ◌/◌, ◌%◌, ◌==◌, ◌&&◌, Bool, true, false, nat_eq, cond, List, [], ◌∷◌, ◌++◌, Option, None, Some, get_or, set, unwrap_or, if◌then◌else◌}
 use Rattle.std.specs.List.{list_any}
 use Rattle.std.specs.HashMap.{HashMap}
 use Rattle.std.specs.Map.{lookup}
 use Rattle.run_steps.specs.declared.places.Place.{Place}
+use Rattle.run_steps.specs.declared.blocks.Block.{Block}
+use Rattle.run_steps.specs.declared.blocks.MemoryCells.{MemoryCells}
 use Rattle.run_steps.specs.declared.cells.Cell.{Cell}
 use Rattle.run_steps.specs.declared.cells.Cell.TheVariants.{First, Stored, Unknown}
 use Rattle.run_steps.specs.declared.cells.Written.{Written}
@@ -16,7 +18,7 @@ use Rattle.run_steps.specs.declared.refusals.Origin.TheVariants as origin
 use Rattle.run_steps.specs.declared.refusals.RunRefusal.{RunRefusal}
 use Rattle.run_steps.specs.declared.refusals.RunRefusal.TheVariants as refusal
 use Rattle.run_steps.specs.declared.refusals.CellContent.{CellContent}
-use Rattle.run_steps.specs.Places.{cell_count, covers, cell_parts}
+use Rattle.run_steps.specs.Places.{cell_count, covers, overlaps, cell_parts}
 use Rattle.run_steps.specs.Widths.{low_part}
 
 -- ---- memory
@@ -25,9 +27,26 @@ use Rattle.run_steps.specs.Widths.{low_part}
 abbrev pub Memory : Type 0
 Memory = ℕ → Cell
 
--- what the map has by address: the first value 0, where it has nothing
-abbrev pub memory_of_cells : {S : Type 0} → HashMap ℕ Cell S → Memory
-memory_of_cells cells address = unwrap_or (lookup (nat_eq address) cells.entries) (First 0)
+-- what the map of locations has by address: the first value 0, where it has nothing
+abbrev pub location_in : {S : Type 0} → HashMap ℕ Cell S → Memory
+location_in locations address = unwrap_or (lookup (nat_eq address) locations.entries) (First 0)
+
+-- what is in a cell of a block, where there is one, or else the given cell
+abbrev pub cell_in : Cell → Option Block → ℕ → Cell
+cell_in other None i = other
+cell_in other (Some block) i = get_or block.cells i (First 0)
+
+-- what these locations and blocks hold by address
+abbrev pub memory_in : {S T : Type 0} → HashMap ℕ Cell S → HashMap ℕ Block T → Memory
+memory_in locations blocks address = cell_in (location_in locations address) (lookup (nat_eq (address / 8)) blocks.entries) (address % 8)
+
+abbrev pub memory_of_cells : MemoryCells → Memory
+memory_of_cells memory = memory_in memory.locations memory.blocks
+
+-- a block's cells after these are written into it from a number on
+abbrev pub with_cells : List Cell → ℕ → List Cell → List Cell
+with_cells block i [] = block
+with_cells block i (cell ∷ cells) = with_cells (set block i cell) (i + 1) cells
 
 -- memory with another cell at an address
 abbrev pub with_cell : Memory → ℕ → Cell → Memory
@@ -50,6 +69,11 @@ written_in written.Unknown part = Unknown
 abbrev pub newest_over : List WaitingStore → ℕ → Option WaitingStore → Option WaitingStore
 newest_over [] cell other = other
 newest_over (w ∷ waiting) cell other = newest_over waiting cell (cond (covers w.place cell) (Some w) other)
+
+-- the newest of the stores that shares a cell with the place, or else the given one
+abbrev pub newest_sharing : List WaitingStore → Place → Option WaitingStore → Option WaitingStore
+newest_sharing [] place other = other
+newest_sharing (w ∷ waiting) place other = newest_sharing waiting place (cond (overlaps w.place place) (Some w) other)
 
 -- what is seen of a cell of memory
 abbrev pub seen_in : Cell → Option CellContent

@@ -1,12 +1,6 @@
-//! What memory holds.
-ghost use Rattle.std.specs.Prelude.{◌≡◌, OnOk};
-ghost use Rattle.run_steps.specs.Places.{cell_parts};
-ghost use Rattle.run_steps.specs.Reads.{filled, memory_of_cells, with_cell, written_in};
-ghost use Rattle.std.specs.Prelude.{map};
-
-use crate::places::{Place, low_part};
-use std::collections::HashMap;
-use tso_ops::OutOfMemory;
+//! What a cell of memory holds, and what is written into it.
+ghost use Rattle.std.specs.Prelude.{◌≡◌, option_map};
+ghost use Rattle.run_steps.specs.Reads.{seen_in, written_in};
 
 /// What memory holds in a byte or a location.
 #[derive(Clone, Copy, Debug, PartialEq, Eq)]
@@ -25,6 +19,18 @@ pub enum Cell {
     Unknown,
 }
 
+impl Cell {
+    /// The value that is seen. None where it isn't known.
+    pub(crate) fn value(&self) -> Option<u64>
+        ensures { result ≡ option_map (λ seen. seen.value) (seen_in self.now) }
+    {
+        match *self {
+            Cell::First(value) | Cell::Stored { value, .. } => Some(value),
+            Cell::Unknown => None,
+        }
+    }
+}
+
 /// What is written into memory, beside the value.
 #[derive(Clone, Copy)]
 pub(crate) enum Written {
@@ -36,36 +42,8 @@ pub(crate) enum Written {
     Unknown,
 }
 
-/// What memory holds at an address: 0, where nothing was written.
-pub(crate) fn cell_at(cells: &HashMap<u64, Cell>, address: u64) -> Cell
-    ensures { result ≡ memory_of_cells cells.now address }
-{
-    cells.get(&address).copied().unwrap_or(Cell::First(0))
-}
-
-/// Writes a value into the cells of a place. OutOfMemory where an allocation was refused.
-pub(crate) fn fill(
-    cells: &mut HashMap<u64, Cell>,
-    place: Place,
-    value: u64,
-    written: Written,
-) -> Result<(), OutOfMemory>
-    ensures { OnOk result (memory_of_cells cells.new ≡ filled (memory_of_cells cells.old) place.address (map (written_in written) (cell_parts place value))) }
-{
-    let mut rest = value;
-    for i in 0..place.cells() {
-        put(
-            cells,
-            place.address + i,
-            cell_of(written, low_part(place.width, rest)),
-        )?;
-        rest /= 256;
-    }
-    Ok(())
-}
-
 /// What is in a cell, where this part of a value is written into it.
-fn cell_of(written: Written, part: u64) -> Cell
+pub(crate) fn cell_of(written: Written, part: u64) -> Cell
     ensures { result ≡ written_in written part }
 {
     match written {
@@ -76,15 +54,5 @@ fn cell_of(written: Written, part: u64) -> Cell
             reached,
         },
         Written::Unknown => Cell::Unknown,
-    }
-}
-
-/// Writes one cell. OutOfMemory where an allocation was refused.
-fn put(cells: &mut HashMap<u64, Cell>, address: u64, cell: Cell) -> Result<(), OutOfMemory>
-    ensures { OnOk result (memory_of_cells cells.new ≡ with_cell (memory_of_cells cells.old) address cell) }
-{
-    match cells.insert(address, cell) {
-        Ok(_) => Ok(()),
-        Err(_) => Err(OutOfMemory),
     }
 }

@@ -10,6 +10,7 @@ pub use processors::{Processor, Reservation, Taken, WaitingStore};
 pub use refusals::{CellContent, Comparison, Origin, RunRefusal};
 pub use steps::{RunLine, RunStep};
 
+mod blocks;
 mod cells;
 pub mod laws;
 mod machines;

@@ -4,13 +4,13 @@ ghost use Rattle.run_steps.specs.Places.{cell_parts};
 ghost use Rattle.run_steps.specs.Reads.{filled, refusal_of, written_in};
 ghost use Rattle.run_steps.specs.declared.cells.Written.TheVariants.{First, Unknown};
 
-use crate::cells::{Cell, Written, fill};
+use crate::blocks::MemoryCells;
+use crate::cells::Written;
 use crate::places::Place;
 use crate::processors::{
     Processor, Reservation, Taken, WaitingStore, add_waiting, grow, take_reservations,
 };
 use std::alloc::Global;
-use std::collections::HashMap;
 use std::mem;
 use tso_ops::{Order, OutOfMemory};
 
@@ -18,8 +18,7 @@ use tso_ops::{Order, OutOfMemory};
 #[derive(Drop)]
 pub struct Machine {
     pub(crate) order: Order,
-    /// What memory holds, where something was written.
-    pub(crate) cells: HashMap<u64, Cell>,
+    pub(crate) memory: MemoryCells,
     /// What there is of processors 0, 1, ..
     pub(crate) processors: Vec<Processor>,
 }
@@ -34,7 +33,7 @@ impl Machine {
     {
         Machine {
             order,
-            cells: HashMap::new(alloc),
+            memory: MemoryCells::new(alloc),
             processors: Vec::new(alloc),
         }
     }
@@ -52,7 +51,7 @@ impl Machine {
         ensures state { OnOk result (state_of_machine self.new ≡ presetting place value (state_of_machine self.old)) }
         ensures others { (model_of self.new ≡ model_of self.old) × ((state_of_machine self.new).processors ≡ (state_of_machine self.old).processors) }
     {
-        fill(&mut self.cells, place, value, Written::First)
+        self.memory.fill(place, value, Written::First)
     }
 
     /// Makes a place for processor `p`. OutOfMemory where an allocation was refused.
@@ -91,7 +90,7 @@ impl Machine {
             store: store.store,
             reached: line,
         };
-        fill(&mut self.cells, store.place, store.value, written)?;
+        self.memory.fill(store.place, store.value, written)?;
         let by = Taken {
             store: store.store,
             reached: line,
@@ -146,7 +145,7 @@ impl Machine {
         ensures state { OnOk result (state_of_machine self.new ≡ forgetting place (state_of_machine self.old)) }
         ensures model { model_of self.new ≡ model_of self.old }
     {
-        fill(&mut self.cells, place, 0, Written::Unknown)
+        self.memory.fill(place, 0, Written::Unknown)
     }
 
     /// A store of processor `p` reaches memory at its own line, after all of its stores that wait. OutOfMemory where an allocation was

@@ -1,11 +1,13 @@
 //! Which stores the machine names, by the numbers of their lines.
 ghost use Rattle.std.specs.Prelude.{◌≡◌, ℕ, IfSome, IsTrue, OnOk, map, nat_eq};
+ghost use Rattle.std.specs.HashMap.{values};
 ghost use Rattle.std.specs.HashSet.{contains};
 ghost use Rattle.std.specs.List.{AllByRecursion};
 ghost use Rattle.run_steps.specs.Machine.{processor_state, state_of_machine};
-ghost use Rattle.run_steps.specs.Names.{CellNames, ProcessorNames, StateNames};
+ghost use Rattle.run_steps.specs.Names.{BlockNames, CellNames, ProcessorNames, StateNames};
 ghost use Rattle.run_steps.specs.Reads.{memory_of_cells};
 
+use crate::blocks::{Block, MemoryCells};
 use crate::cells::Cell;
 use crate::machines::Machine;
 use crate::processors::{Processor, Reservation, WaitingStore};
@@ -19,17 +21,51 @@ impl Machine {
         ensures named { OnOk result (StateNames (contains nat_eq names.new) (state_of_machine self.now)) }
         ensures kept { OnOk result ((n : ℕ) → IsTrue (contains nat_eq names.old n) → IsTrue (contains nat_eq names.new n)) }
     {
-        add_of_memory(&self.cells, names)?;
+        add_of_memory(&self.memory, names)?;
         add_of_processors(&self.processors, names)
     }
 }
 
 /// Adds the stores that memory holds. OutOfMemory where an allocation was refused.
-fn add_of_memory(cells: &HashMap<u64, Cell>, names: &mut HashSet<u64>) -> Result<(), OutOfMemory>
-    ensures named { OnOk result ((address : ℕ) → CellNames (contains nat_eq names.new) (memory_of_cells cells.now address)) }
+fn add_of_memory(memory: &MemoryCells, names: &mut HashSet<u64>) -> Result<(), OutOfMemory>
+    ensures named { OnOk result ((address : ℕ) → CellNames (contains nat_eq names.new) (memory_of_cells memory.now address)) }
     ensures kept { OnOk result ((n : ℕ) → IsTrue (contains nat_eq names.old n) → IsTrue (contains nat_eq names.new n)) }
 {
-    for cell in cells.values() {
+    add_of_locations(&memory.locations, names)?;
+    add_of_blocks(&memory.blocks, names)
+}
+
+/// Adds the stores that the locations hold. OutOfMemory where an allocation was refused.
+fn add_of_locations(
+    locations: &HashMap<u64, Cell>,
+    names: &mut HashSet<u64>,
+) -> Result<(), OutOfMemory>
+    ensures named { OnOk result (AllByRecursion (CellNames (contains nat_eq names.new)) (values locations.now)) }
+    ensures kept { OnOk result ((n : ℕ) → IsTrue (contains nat_eq names.old n) → IsTrue (contains nat_eq names.new n)) }
+{
+    for cell in locations.values() {
+        add_of_cell(*cell, names)?;
+    }
+    Ok(())
+}
+
+/// Adds the stores that the blocks hold. OutOfMemory where an allocation was refused.
+fn add_of_blocks(blocks: &HashMap<u64, Block>, names: &mut HashSet<u64>) -> Result<(), OutOfMemory>
+    ensures named { OnOk result (AllByRecursion (BlockNames (contains nat_eq names.new)) (values blocks.now)) }
+    ensures kept { OnOk result ((n : ℕ) → IsTrue (contains nat_eq names.old n) → IsTrue (contains nat_eq names.new n)) }
+{
+    for block in blocks.values() {
+        add_of_block(block, names)?;
+    }
+    Ok(())
+}
+
+/// Adds the stores that a block of memory holds. OutOfMemory where an allocation was refused.
+fn add_of_block(block: &Block, names: &mut HashSet<u64>) -> Result<(), OutOfMemory>
+    ensures named { OnOk result (AllByRecursion (CellNames (contains nat_eq names.new)) block.now.cells) }
+    ensures kept { OnOk result ((n : ℕ) → IsTrue (contains nat_eq names.old n) → IsTrue (contains nat_eq names.new n)) }
+{
+    for cell in &block.cells {
         add_of_cell(*cell, names)?;
     }
     Ok(())

@@ -1,6 +1,6 @@
 //! The bytes and locations that accesses are of.
-ghost use Rattle.std.specs.Prelude.{◌≡◌, ◌≤◌, ◌+◌, ◌^◌, IfNone, IfSome, get_or};
-ghost use Rattle.run_steps.specs.Widths.{cells_of, low_part};
+ghost use Rattle.std.specs.Prelude.{◌≡◌, ◌↔◌, IsTrue, ◌≤◌, ◌+◌, ◌^◌, IfNone, IfSome, get_or};
+ghost use Rattle.run_steps.specs.Widths.{above_bytes, cells_of, low_part};
 
 /// What an access is of: some bytes, the lowest first, or a location, which holds a whole value. It has at most 8 cells, below 2^64.
 #[derive(Clone, Copy, Debug, PartialEq, Eq)]
@@ -90,4 +90,15 @@ pub(crate) fn low_part(width: u64, value: u64) -> u64
     ensures { result ≡ low_part width value }
 {
     if width == 0 { value } else { value % 256 }
+}
+
+/// Whether a value has no more than so many bytes.
+pub(crate) fn fits(width: u64, value: u64) -> bool
+    ensures { IsTrue result ↔ (above_bytes width value ≡ 0) }
+{
+    let mut rest = value;
+    for _i in 0..width {
+        rest /= 256;
+    }
+    rest == 0
 }

@@ -3,7 +3,7 @@ ghost use Rattle.std.specs.Prelude.{◌≡◌, ◌<◌, ◌-◌, ◌++◌, suc, 
 ghost use Rattle.std.specs.List.{find, position};
 ghost use Rattle.run_steps.specs.Machine.{processors_after, drained_number, idle, keeps_back, losing, oldest_waiting, processor_state, with_store, without_reserved};
 ghost use Rattle.run_steps.specs.Places.{is_place, overlaps};
-ghost use Rattle.run_steps.specs.Reads.{newest_over};
+ghost use Rattle.run_steps.specs.Reads.{newest_over, newest_sharing};
 
 use crate::places::Place;
 use std::alloc::Global;
@@ -77,6 +77,19 @@ pub(crate) fn newest_over(waiting: &[WaitingStore], cell: u64) -> Option<Waiting
     let mut newest = None;
     for store in waiting {
         if store.place.covers(cell) {
+            newest = Some(*store);
+        }
+    }
+    newest
+}
+
+/// The newest of the stores that shares a cell with a place.
+pub(crate) fn newest_sharing(waiting: &[WaitingStore], place: Place) -> Option<WaitingStore>
+    ensures { result ≡ newest_sharing waiting.now place None }
+{
+    let mut newest = None;
+    for store in waiting {
+        if store.place.overlaps(&place) {
             newest = Some(*store);
         }
     }

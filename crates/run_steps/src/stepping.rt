@@ -130,7 +130,7 @@ impl Machine {
         ensures compared { IfOk result (λ comparison. comparison ≡ compared place (view_of (state_of_machine self.now) p)) }
     {
         let view = View {
-            cells: &self.cells,
+            memory: &self.memory,
             waiting: self.waits(p),
         };
         view.compare(alloc, place, said, refusals)
@@ -153,7 +153,7 @@ impl Machine {
             refusals.push(RunRefusal::Waiting { store: store.store })?;
         }
         let view = View {
-            cells: &self.cells,
+            memory: &self.memory,
             waiting: &[],
         };
         view.compare(alloc, place, said, refusals)

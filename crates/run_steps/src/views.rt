@@ -1,27 +1,29 @@
 //! What a processor sees of memory and of the stores that wait in its buffer.
-ghost use Rattle.std.specs.Prelude.{◌≡◌, ◌++◌, [], map, IfOk, OnOk};
+ghost use Rattle.std.specs.Prelude.{◌≡◌, ◌≢◌, None, ◌++◌, ◌+◌, ◌%◌, ◌≤◌, ◌<◌, ℕ, [], get_or, map, IfOk, IfSome, OnOk};
+ghost use Rattle.run_steps.specs.declared.cells.Cell.TheVariants.{First};
+ghost use Rattle.run_steps.specs.Places.{cell_count};
 ghost use Rattle.std.specs.List.{list_any};
-ghost use Rattle.run_steps.specs.Reads.{compared, is_origin, memory_of_cells, origins_in, read_in, refusal_of, sees, value_refusals, with_origin};
+ghost use Rattle.run_steps.specs.Reads.{compared, is_origin, memory_of_cells, newest_sharing, origins_in, read_in, refusal_of, seen_in, sees, value_refusals, with_origin};
 
-use crate::cells::{Cell, cell_at};
-use crate::places::Place;
-use crate::processors::{WaitingStore, newest_over};
+use crate::blocks::{Block, MemoryCells};
+use crate::cells::Cell;
+use crate::places::{Place, fits};
+use crate::processors::{WaitingStore, newest_over, newest_sharing};
 use crate::refusals::{CellContent, Comparison, Origin, RunRefusal};
 use std::alloc::Global;
-use std::collections::HashMap;
 use tso_ops::OutOfMemory;
 
 /// Memory, and stores that wait before it.
 #[derive(Clone, Copy)]
 pub(crate) struct View<'a> {
-    pub(crate) cells: &'a HashMap<u64, Cell>,
+    pub(crate) memory: &'a MemoryCells,
     pub(crate) waiting: &'a [WaitingStore],
 }
 
 impl<'a> View<'a> {
     /// What is seen in a cell: what the newest store that waits has there, or else what memory holds. None where that isn't known.
     fn look(&self, cell: u64) -> Option<CellContent>
-        ensures { result ≡ sees (memory_of_cells self.now.cells.now) self.now.waiting.now cell }
+        ensures { result ≡ sees (memory_of_cells self.now.memory.now) self.now.waiting.now cell }
     {
         if let Some(waiting) = newest_over(self.waiting, cell) {
             let number = cell.saturating_sub(waiting.place.address);
@@ -30,7 +32,7 @@ impl<'a> View<'a> {
                 origin: Origin::Waiting(waiting.store),
             });
         }
-        match cell_at(self.cells, cell) {
+        match self.memory.cell(cell) {
             Cell::First(value) => Some(CellContent {
                 value,
                 origin: Origin::First,
@@ -52,7 +54,7 @@ impl<'a> View<'a> {
 
     /// The value that is read at a place. None where some of it isn't known.
     pub(crate) fn read(&self, place: Place) -> Option<u64>
-        ensures { result ≡ read_in place (sees (memory_of_cells self.now.cells.now) self.now.waiting.now) }
+        ensures { result ≡ read_in place (sees (memory_of_cells self.now.memory.now) self.now.waiting.now) }
     {
         if place.width == 0 {
             return match self.look(place.address) {
@@ -60,6 +62,46 @@ impl<'a> View<'a> {
                 None => None,
             };
         }
+        match newest_sharing(self.waiting, place) {
+            None => self.read_memory(place),
+            Some(store) if store.place.is(&place) && fits(place.width, store.value) => {
+                Some(store.value)
+            },
+            Some(_) => self.read_bytes(place),
+        }
+    }
+
+    /// The value that is read at a place of bytes over which no store waits. None where some of it isn't known.
+    fn read_memory(&self, place: Place) -> Option<u64>
+        requires bytes { place.width ≢ 0 }
+        requires alone { newest_sharing self.now.waiting.now place None ≡ None }
+        ensures { result ≡ read_in place (sees (memory_of_cells self.now.memory.now) self.now.waiting.now) }
+    {
+        match self.block(place) {
+            Some(block) => block.read(place),
+            None => self.read_bytes(place),
+        }
+    }
+
+    /// The block in which all bytes of a place are seen over which no store waits. None where there isn't one.
+    fn block(&self, place: Place) -> Option<&Block>
+        requires { newest_sharing self.now.waiting.now place None ≡ None }
+        ensures within { IfSome result (λ block. place.address % 8 + cell_count place ≤ 8) }
+        ensures seen { IfSome result (λ block. (i : ℕ) → i < cell_count place →
+            sees (memory_of_cells self.now.memory.now) self.now.waiting.now (place.address + i) ≡
+            seen_in (get_or block.now.cells (place.address % 8 + i) (First 0))) }
+    {
+        if place.address % 8 + place.cells() > 8 {
+            return None;
+        }
+        self.memory.block(place.address)
+    }
+
+    /// The value that is read at a place of bytes, one by one. None where some of it isn't known.
+    fn read_bytes(&self, place: Place) -> Option<u64>
+        requires { place.width ≢ 0 }
+        ensures { result ≡ read_in place (sees (memory_of_cells self.now.memory.now) self.now.waiting.now) }
+    {
         let mut value = Some(0);
         for i in (0..place.width).rev() {
             value = match (self.look(place.address + i), value) {
@@ -72,7 +114,7 @@ impl<'a> View<'a> {
 
     /// Where the value at a place is from, each once, by ascending byte. OutOfMemory where an allocation was refused.
     fn origins(&self, alloc: Global, place: Place) -> Result<Vec<Origin>, OutOfMemory>
-        ensures { IfOk result (λ origins. origins.items ≡ origins_in place (sees (memory_of_cells self.now.cells.now) self.now.waiting.now)) }
+        ensures { IfOk result (λ origins. origins.items ≡ origins_in place (sees (memory_of_cells self.now.memory.now) self.now.waiting.now)) }
     {
         let mut origins = Vec::new(alloc);
         for i in 0..place.cells() {
@@ -90,8 +132,8 @@ impl<'a> View<'a> {
         refusals: &mut Vec<RunRefusal>,
     ) -> Result<Comparison, OutOfMemory>
         ensures found { OnOk result (map refusal_of refusals.new.items ≡ map refusal_of refusals.old.items ++
-            value_refusals place (sees (memory_of_cells self.now.cells.now) self.now.waiting.now) said) }
-        ensures compared { IfOk result (λ comparison. comparison ≡ compared place (sees (memory_of_cells self.now.cells.now) self.now.waiting.now)) }
+            value_refusals place (sees (memory_of_cells self.now.memory.now) self.now.waiting.now) said) }
+        ensures compared { IfOk result (λ comparison. comparison ≡ compared place (sees (memory_of_cells self.now.memory.now) self.now.waiting.now)) }
     {
         let Some(has) = self.read(place) else {
             return Ok(Comparison::Unknown);

@@ -10,7 +10,7 @@ use Rattle.run_steps.proofs.machines.Machine.drain.Goals as goal
 
 pub returns-clause-state : goal.returns-clause-state
 returns-clause-state c =
-    let memory = memory_of_cells c.args.self.now.cells in
+    let memory = memory_of_cells c.args.self.now.memory in
     let processors = c.args.self.now.processors.items in
     let s = state_of_machine c.args.self.now in
     let line = c.args.line in

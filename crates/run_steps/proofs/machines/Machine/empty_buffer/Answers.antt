@@ -7,7 +7,7 @@ use Rattle.run_steps.proofs.machines.Machine.empty_buffer.Goals as goal
 
 pub loop-store-init : goal.loop-store-init
 loop-store-init c =
-    let memory = memory_of_cells c.args.self.now.cells in
+    let memory = memory_of_cells c.args.self.now.memory in
     let processors = c.args.self.now.processors.items in
     let p = c.args.p in
     let old = c.index_mut.result.now in

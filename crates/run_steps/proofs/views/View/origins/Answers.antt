@@ -6,7 +6,7 @@ use Rattle.run_steps.proofs.views.View.origins.Goals as goal
 
 pub loop-i-preserved : goal.loop-i-preserved
 loop-i-preserved c =
-    let look = sees (memory_of_cells c.args.self.now.cells.now) c.args.self.now.waiting.now in
+    let look = sees (memory_of_cells c.args.self.now.memory.now) c.args.self.now.waiting.now in
     let count = cell_count c.args.place in
     let i = c.loop-i.i in
     let address = c.args.place.address in

@@ -3,7 +3,7 @@ use Rattle.std.specs.HashSet.{contains}
 use Rattle.std.specs.List.{AllByRecursion}
 use Rattle.std.specs.Map.Iter.{deref}
 use Rattle.run_steps.specs.Names.{CellNames}
-use Rattle.run_steps.proofs.names.add_of_memory.Given as goal
+use Rattle.run_steps.proofs.names.add_of_locations.Given as goal
 
 abbrev pub invariant-loop-cell : goal.invariant-loop-cell
 invariant-loop-cell l = record {
