@@ -1,6 +1,6 @@
 -- What a line says to a log.
 use Rattle.std.specs.Str.{bytes_eq}
-use Rattle.std.specs.Prelude.{ℕ, ◌||◌, List, Result, Ok, Err, codes, if◌then◌else◌}
+use Rattle.std.specs.Prelude.{ℕ, ◌||◌, Bool, List, Result, Ok, Err, codes, if◌then◌else◌}
 use Rattle.tso_text.specs.Numbers.{number_at}
 use Rattle.tso_text.specs.declared.faults.Why.{Why}
 use Rattle.tso_text.specs.declared.faults.Why.TheVariants.{MixedWidths, Widths}
@@ -10,12 +10,20 @@ use Rattle.log_text.specs.declared.logs.LogOperation.TheVariants.{Ld, St, Sw, Mb
 use Rattle.log_text.specs.declared.lines.LogLine.{LogLine}
 use Rattle.log_text.specs.declared.lines.LogLine.TheVariants.{Note, Pso, First, Issued, Unknown, Memory, End}
 
--- What a step of processor p says, by its keyword and its numbers: the address and the width of its place, and its values. A load that reserves its place
--- is a load, and a store that reaches memory at once is a store. When another store reaches memory, and what memory holds at the end, a log doesn't say.
+-- the keyword of a load, which may reserve its place
+abbrev pub is_load : List ℕ → Bool
+is_load word = bytes_eq word (codes "ld") || bytes_eq word (codes "lr")
+
+-- the keyword of a store, which waits or reaches memory at once
+abbrev pub is_store : List ℕ → Bool
+is_store word = bytes_eq word (codes "st") || bytes_eq word (codes "wr") || bytes_eq word (codes "sc")
+
+-- What a step of processor p says, by its keyword and its numbers: the address and the width of its place, and its values. When a store that waits
+-- reaches memory, and what memory holds at the end, a log doesn't say.
 abbrev pub step_told : ℕ → List ℕ → List ℕ → LogLine
 step_told p word numbers =
-    if bytes_eq word (codes "ld") || bytes_eq word (codes "lr") then Issued p (Ld (number_at numbers 0) (number_at numbers 2))
-    else if bytes_eq word (codes "st") || bytes_eq word (codes "wr") || bytes_eq word (codes "sc") then Issued p (St (number_at numbers 0) (number_at numbers 2))
+    if is_load word then Issued p (Ld (number_at numbers 0) (number_at numbers 2))
+    else if is_store word then Issued p (St (number_at numbers 0) (number_at numbers 2))
     else if bytes_eq word (codes "sw") then Issued p (Sw (number_at numbers 0) (number_at numbers 2) (number_at numbers 3))
     else if bytes_eq word (codes "mb") then Issued p Mb
     else if bytes_eq word (codes "stbar") then Issued p Sb

@@ -60,7 +60,7 @@ unknown_in (Unknown p a) = a ∷ []
 unknown_in Memory = []
 unknown_in End = []
 
--- how many processors there are up to that of the line
+-- how many processors there are up to the one of which the line says something to a log
 abbrev pub processors_to : LogLine → ℕ
 processors_to Note = 0
 processors_to Pso = 0
@@ -70,7 +70,7 @@ processors_to (Unknown p a) = suc p
 processors_to Memory = 0
 processors_to End = 0
 
--- how many there are up to the last that has a line
+-- how many there are up to the last of which one says something
 abbrev pub processors_in : List LogLine → ℕ
 processors_in [] = 0
 processors_in (line ∷ lines) = max (processors_to line) (processors_in lines)

@@ -89,6 +89,11 @@ static AGAIN: [Case; 11] = [
         "model pso\ninit 3 18446744073709551615\ninit 18446744073709551615 0\n0 st 3 7\n2 ld 18446744073709551615 9\n0 mb\n2 stbar\n2 st 5 1\n0 sw 3 18446744073709551614 7\n2 st 0 0\n1 un 5\n",
         "3 Pso [(3, 18446744073709551615), (18446744073709551615, 0)]: 4 6 9 5 7 10",
     ),
+    (
+        Kind::Log,
+        "# a run\nmodel pso # weaker\ninit 0xff 2\ninit 7 0x10\ninit 255 3 # later\n1 wr 7 4\n0 dr\n0 lr 7 16\n3 last 7 4\n1 sc 0xff 9 #\nend\n",
+        "2 Pso [(7, 16), (255, 3)]: 8 6 10",
+    ),
 ];
 
 /// Reads a text and prints it back, once more where an allocation was refused: the reader says so of line 0, and so does a
