@@ -49,7 +49,7 @@ fn long_texts(rt: HostRuntime) -> Result<(), Fail> {
 }
 
 /// A text of each kind, of which each allocation is refused in turn, and what it gives.
-static AGAIN: [Case; 11] = [
+static AGAIN: [Case; 12] = [
     (
         Kind::Trace,
         "tso trace 1\nproc\nst 1 1\nld 2 0\nproc\nst 2 2\nmb\nsw 1 0 3\nend\n",
