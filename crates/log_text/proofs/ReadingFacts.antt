@@ -44,7 +44,7 @@ order_of-push lines line = ap (λ b. cond b OrderPso OrderTso) (any-push is_mode
 told-push : {X : Type 0} (told : LogLine → List X) (lines : List LogLine) (line : LogLine) → flat_map told (lines ++ line ∷ []) ≡ flat_map told lines ++ told line
 told-push told lines line = flat_map-append told lines (line ∷ []) ∙ ap (λ xs. flat_map told lines ++ xs) (append-nil (told line))
 
-first-push : (lines : List LogLine) (line : LogLine) → first_values (lines ++ line ∷ []) ≡ fold with_first (first_values lines) (entries_in line)
+pub first-push : (lines : List LogLine) (line : LogLine) → first_values (lines ++ line ∷ []) ≡ fold with_first (first_values lines) (entries_in line)
 first-push lines line = ap (fold with_first []) (told-push entries_in lines line) ∙ fold-append with_first [] (flat_map entries_in lines) (entries_in line)
 
 issued_from-push : (n : ℕ) (lines : List LogLine) (line : LogLine) (p : ℕ) → issued_from n (lines ++ line ∷ []) p ≡ issued_from n lines p ++ issued_in p (n + length lines) line
