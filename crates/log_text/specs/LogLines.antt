@@ -11,19 +11,19 @@ use Rattle.log_text.specs.declared.lines.LogLine.{LogLine}
 use Rattle.log_text.specs.declared.lines.LogLine.TheVariants.{Note, Pso, First, Issued, Unknown, Memory, End}
 
 -- the keyword of a load, which may reserve its place
-abbrev pub is_load : List ℕ → Bool
-is_load word = bytes_eq word (codes "ld") || bytes_eq word (codes "lr")
+abbrev pub is_load_word : List ℕ → Bool
+is_load_word word = bytes_eq word (codes "ld") || bytes_eq word (codes "lr")
 
 -- the keyword of a store, which waits or reaches memory at once
-abbrev pub is_store : List ℕ → Bool
-is_store word = bytes_eq word (codes "st") || bytes_eq word (codes "wr") || bytes_eq word (codes "sc")
+abbrev pub is_store_word : List ℕ → Bool
+is_store_word word = bytes_eq word (codes "st") || bytes_eq word (codes "wr") || bytes_eq word (codes "sc")
 
 -- What a step of processor p says, by its keyword and its numbers: the address and the width of its place, and its values. When a store that waits
 -- reaches memory, and what memory holds at the end, a log doesn't say.
 abbrev pub step_told : ℕ → List ℕ → List ℕ → LogLine
 step_told p word numbers =
-    if is_load word then Issued p (Ld (number_at numbers 0) (number_at numbers 2))
-    else if is_store word then Issued p (St (number_at numbers 0) (number_at numbers 2))
+    if is_load_word word then Issued p (Ld (number_at numbers 0) (number_at numbers 2))
+    else if is_store_word word then Issued p (St (number_at numbers 0) (number_at numbers 2))
     else if bytes_eq word (codes "sw") then Issued p (Sw (number_at numbers 0) (number_at numbers 2) (number_at numbers 3))
     else if bytes_eq word (codes "mb") then Issued p Mb
     else if bytes_eq word (codes "stbar") then Issued p Sb
