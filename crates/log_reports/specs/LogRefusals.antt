@@ -5,15 +5,13 @@ use Rattle.tso_text.specs.declared.faults.Why.TheVariants.{BadHeader, BadLine, B
 use Rattle.trace_reports.specs.RefusalLines.{refusal_text}
 use Rattle.trace_reports.specs.Renderings.{RendersRefusal}
 use Rattle.trace_explanation.specs.Refusals.{numbered_line}
-use Rattle.log_reports.specs.declared.refusal_sentences.TheConstants.{BAD_LINE, BAD_NUMBER, BAD_MODEL, INIT_ORDER, PROCESSOR_RANGE}
+use Rattle.log_reports.specs.declared.refusal_sentences.TheConstants.{BAD_LINE, BAD_NUMBER, WIDTHS}
 
--- the rule that a log with this refusal breaks: a log has no other refusals than the first five
+-- the rule that a log with this refusal breaks: a log has no other refusals than the first three
 unfoldable pub log_sentence : Why → List ℕ
 log_sentence BadLine = BAD_LINE.now
 log_sentence BadNumber = BAD_NUMBER.now
-log_sentence BadModel = BAD_MODEL.now
-log_sentence InitOrder = INIT_ORDER.now
-log_sentence ProcessorRange = PROCESSOR_RANGE.now
+log_sentence Widths = WIDTHS.now
 log_sentence BadHeader = []
 log_sentence BeforeProc = []
 log_sentence TooManyProcessors = []
@@ -26,8 +24,10 @@ log_sentence AfterEnd = []
 log_sentence TooLong = []
 log_sentence OutOfMemory = []
 log_sentence MixedWidths = []
+log_sentence ProcessorRange = []
+log_sentence BadModel = []
+log_sentence InitOrder = []
 log_sentence TooManyWaiting = []
-log_sentence Widths = []
 
 -- what is said of a log that is refused at this line
 unfoldable pub log_refusal_explanation : List ℕ → ℕ → Why → List ℕ

@@ -2,7 +2,7 @@
 ghost use Rattle.std.specs.Prelude.{◌≡◌, ◌++◌, OnOk, string_bytes};
 ghost use Rattle.log_reports.specs.LogRefusals.{log_refusal_explanation, log_sentence};
 
-use crate::refusal_sentences::{BAD_LINE, BAD_MODEL, BAD_NUMBER, INIT_ORDER, PROCESSOR_RANGE};
+use crate::refusal_sentences::{BAD_LINE, BAD_NUMBER, WIDTHS};
 use std::alloc::AllocError;
 use trace_explanation::explain_refusal;
 use tso_text::{TextFault, Why};
@@ -34,9 +34,7 @@ fn log_sentence(why: Why) -> &'static str
     match why {
         Why::BadLine => BAD_LINE,
         Why::BadNumber => BAD_NUMBER,
-        Why::BadModel => BAD_MODEL,
-        Why::InitOrder => INIT_ORDER,
-        Why::ProcessorRange => PROCESSOR_RANGE,
+        Why::Widths => WIDTHS,
         Why::BadHeader
         | Why::BeforeProc
         | Why::TooManyProcessors
@@ -47,9 +45,11 @@ fn log_sentence(why: Why) -> &'static str
         | Why::MissingEnd
         | Why::AfterEnd
         | Why::TooLong
+        | Why::ProcessorRange
+        | Why::BadModel
+        | Why::InitOrder
         | Why::MixedWidths
         | Why::TooManyWaiting
-        | Why::Widths
         | Why::OutOfMemory => "",
     }
 }

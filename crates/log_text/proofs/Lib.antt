@@ -1,3 +1,4 @@
+pub mod FirstFacts
 pub mod LeftOutFacts
 pub mod ReadingFacts
 pub mod TextFacts

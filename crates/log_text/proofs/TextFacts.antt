@@ -1,5 +1,5 @@
 -- Lemmas on the texts of logs: how far a reader has come, and that a text spells one log or has a refusal.
-use Rattle.std.proofs.Common.{◌≡◌, ◌≢◌, ℕ, suc, ◌+◌, ◌&&◌, eqb, Bool, true, false, not, List, [], ◌∷◌, ◌++◌, length, map, None, Some, Result, Ok, Err, refl, ap, sym, ◌∙◌, arith, append_assoc, ⊎_elim, ◌⊎◌, inl, inr}
+use Rattle.std.proofs.Common.{◌≡◌, ◌≢◌, ℕ, suc, ◌+◌, ◌&&◌, eqb, Bool, true, false, not, List, [], ◌∷◌, ◌++◌, length, map, None, Some, Result, Ok, refl, ap, sym, ◌∙◌, arith, append_assoc, ⊎_elim, ◌⊎◌, inl, inr}
 use Rattle.std.proofs.lemmas.Bool.Decides.{nat_tests}
 use Rattle.std.proofs.lemmas.List.{append_cancel_right, length-map, length_push, map-append}
 use Rattle.std.specs.List.{list_any}
@@ -10,9 +10,9 @@ use Rattle.tso_text.specs.declared.faults.Why.TheVariants.{BadLine, OutOfMemory}
 use Rattle.log_text.specs.declared.lines.LogLine.{LogLine}
 use Rattle.log_text.specs.declared.readings.Reading.{Reading}
 use Rattle.log_text.specs.LogLines.{line_said}
-use Rattle.log_text.specs.LogTexts.{fault_after, is_end, log_of_lines, AreSaid, SpellsLog, IsEndedAsNeeded, IsLogRefusal, IsPartRefused}
+use Rattle.log_text.specs.LogTexts.{fault_after, fault_of_said, is_end, line_fault, log_of_lines, AreSaid, SpellsLog, IsEndedAsNeeded, IsLogRefusal, IsPartRefused}
 use Rattle.log_text.specs.LogValues.{NumberedLog}
-use Rattle.log_text.specs.Internal.Readings.{HoldsLines, HasFault, IsTextAccepted, IsTextRefused}
+use Rattle.log_text.specs.Internal.Readings.{HoldsLines, IsTextAccepted, IsTextRefused}
 
 -- ---- lists
 
@@ -131,14 +131,8 @@ not_both needs_end text texts lines part (next ∷ after) why whole all is cut s
     let at = split_last whole texts after [] part next same in
     let line = said_at texts part at.0 lines all said.said (ap (map line_said) (sym at.1) ∙ spelled.said) in
     let clean : fault_after lines line.0 ≡ None = spelled.clean lines line.0 line.1 line.3 in
-    ⊎_elim
-    (λ (nothing : line_said part ≡ Err why). let says : line_said part ≡ Ok line.0 = line.2 in absurd cc)
-    (λ (other : (l : LogLine) × (line_said part ≡ Ok l) × (fault_after lines l ≡ Some why)).
-    let both : said_ok line.0 ≡ said_ok other.0 = sym line.2 ∙ other.1 in
-    let one : line.0 ≡ other.0 = cc in
-    let none : None ≡ Some why = sym clean ∙ ap (fault_after lines) one ∙ other.2 in
-    absurd cc)
-    fault
+    let none : None ≡ Some why = sym clean ∙ sym (ap (fault_of_said lines) line.2) ∙ fault in
+    absurd cc
 
 -- a text with a refusal spells no log
 pub never_both : (needs_end : Bool) (text : List ℕ) (t : NumberedLog) (line : ℕ) (why : Why) → SpellsLog text t → IsEndedAsNeeded needs_end text → IsLogRefusal needs_end text line why → ⊥
@@ -170,9 +164,9 @@ Reached-next text line rest reading part after new r cut accepted =
       texts = r.texts ++ part ∷ [];
       lines = r.lines ++ next.line ∷ [];
       whole = r.whole ∙ ap (λ x. r.texts ++ x) cut ∙ sym (append_assoc r.texts (part ∷ []) (parts_of after));
-      said = AreSaid-push r.texts r.lines part next.line r.said next.says next.next.clean;
+      said = AreSaid-push r.texts r.lines part next.line r.said next.says next.clean;
       count = omega (arith, length_push r.texts part, r.count);
-      holds = next.next.holds;
+      holds = next.holds;
     }
 
 -- nothing stands after the last line
@@ -229,7 +223,7 @@ line_refused needs_end text line rest reading part after why r cut refused =
     let p = split_parts (λ b. eqb b 10) after in
     ⊎_elim
     (λ (memory : why ≡ OutOfMemory). inl memory)
-    (λ (fault : HasFault r.lines part why). inr (record {
+    (λ (fault : line_fault r.lines part ≡ Some why). inr (record {
       texts = r.texts;
       lines = r.lines;
       part = part;

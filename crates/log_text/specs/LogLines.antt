@@ -1,46 +1,52 @@
--- What a line of a log says.
+-- What a line says to a log.
 use Rattle.std.specs.Str.{bytes_eq}
-use Rattle.std.specs.Prelude.{ℕ, List, [], ◌∷◌, Option, None, Some, Result, Ok, Err, codes, if◌then◌else◌}
-use Rattle.line_text.specs.Lines.{tokens_of}
-use Rattle.line_text.specs.Numbers.{number}
-use Rattle.line_text.specs.Results.{◌>>=◌}
-use Rattle.tso_text.specs.Numbers.{numbers, number_at}
+use Rattle.std.specs.Prelude.{ℕ, ◌||◌, Bool, List, Result, Ok, Err, codes, if◌then◌else◌}
+use Rattle.tso_text.specs.Numbers.{number_at}
 use Rattle.tso_text.specs.declared.faults.Why.{Why}
-use Rattle.tso_text.specs.declared.faults.Why.TheVariants.{BadLine, BadModel}
-use Rattle.log_text.specs.declared.logs.LogOperation.{LogOperation}
+use Rattle.tso_text.specs.declared.faults.Why.TheVariants.{MixedWidths, Widths}
+use Rattle.run_lines.specs.declared.arguments.Widths.TheVariants as widths
+use Rattle.run_lines.specs.Lines.{LineNumbers, note, pso, first, step, finish, line_read}
 use Rattle.log_text.specs.declared.logs.LogOperation.TheVariants.{Ld, St, Sw, Mb, Sb}
 use Rattle.log_text.specs.declared.lines.LogLine.{LogLine}
-use Rattle.log_text.specs.declared.lines.LogLine.TheVariants.{Pso, First, Issued, Unknown, End}
+use Rattle.log_text.specs.declared.lines.LogLine.TheVariants.{Note, Pso, First, Issued, Unknown, Memory, End}
 
--- what a keyword and the tokens after it say: `ld A R`, `st A V`, `sw A R V`, `mb` or `stbar`
-unfoldable pub operation_said : List ℕ → List (List ℕ) → Result LogOperation Why
-operation_said word tokens =
-    if bytes_eq word (codes "ld") then numbers 2 tokens >>= (λ ns. Ok (Ld (number_at ns 0) (number_at ns 1)))
-    else if bytes_eq word (codes "st") then numbers 2 tokens >>= (λ ns. Ok (St (number_at ns 0) (number_at ns 1)))
-    else if bytes_eq word (codes "sw") then numbers 3 tokens >>= (λ ns. Ok (Sw (number_at ns 0) (number_at ns 1) (number_at ns 2)))
-    else if bytes_eq word (codes "mb") then numbers 0 tokens >>= (λ _. Ok Mb)
-    else if bytes_eq word (codes "stbar") then numbers 0 tokens >>= (λ _. Ok Sb)
-    else Err BadLine
+-- the keyword of a load, which may reserve its place
+abbrev pub is_load_word : List ℕ → Bool
+is_load_word word = bytes_eq word (codes "ld") || bytes_eq word (codes "lr")
 
--- what the tokens after the processor say of it: an operation, or `un A`
-unfoldable pub issued_said : ℕ → List (List ℕ) → Result LogLine Why
-issued_said p [] = Err BadLine
-issued_said p (word ∷ tokens) =
-    if bytes_eq word (codes "un") then numbers 1 tokens >>= (λ ns. Ok (Unknown p (number_at ns 0))) else operation_said word tokens >>= (λ x. Ok (Issued p x))
+-- the keyword of a store, which waits or reaches memory at once
+abbrev pub is_store_word : List ℕ → Bool
+is_store_word word = bytes_eq word (codes "st") || bytes_eq word (codes "wr") || bytes_eq word (codes "sc")
 
--- the processor that the first token of a line is, or its fault
-abbrev pub processor_said : Option ℕ → Result ℕ Why
-processor_said None = Err BadLine
-processor_said (Some p) = Ok p
+-- What a step of processor p says, by its keyword and its numbers: the address and the width of its place, and its values. When a store that waits
+-- reaches memory, and what memory holds at the end, a log doesn't say.
+abbrev pub step_told : ℕ → List ℕ → List ℕ → LogLine
+step_told p word numbers =
+    if is_load_word word then Issued p (Ld (number_at numbers 0) (number_at numbers 2))
+    else if is_store_word word then Issued p (St (number_at numbers 0) (number_at numbers 2))
+    else if bytes_eq word (codes "sw") then Issued p (Sw (number_at numbers 0) (number_at numbers 2) (number_at numbers 3))
+    else if bytes_eq word (codes "mb") then Issued p Mb
+    else if bytes_eq word (codes "stbar") then Issued p Sb
+    else if bytes_eq word (codes "un") then Unknown p (number_at numbers 0)
+    else Memory
 
--- what the tokens of a line say: `init A V`, or a processor and what it did
-unfoldable pub tokens_said : List (List ℕ) → Result LogLine Why
-tokens_said [] = Err BadLine
-tokens_said (word ∷ tokens) =
-    if bytes_eq word (codes "init") then numbers 2 tokens >>= (λ ns. Ok (First (number_at ns 0) (number_at ns 1)))
-    else if bytes_eq word (codes "model") then Err BadModel
-    else processor_said (number word) >>= λ p. issued_said p tokens
+-- what a line of a run says
+abbrev pub line_told : LineNumbers → LogLine
+line_told note = Note
+line_told pso = Pso
+line_told (first numbers) = First (number_at numbers 0) (number_at numbers 2)
+line_told (step p word numbers) = step_told p word numbers
+line_told finish = End
 
--- what a line says, or its fault: the one memory model that has a line is PSO
+-- the refusal of a line in whose text no place has a width: a log has none
+abbrev pub refusal_told : Why → Why
+refusal_told MixedWidths = Widths
+refusal_told why = why
+
+abbrev pub result_told : Result LineNumbers Why → Result LogLine Why
+result_told (Err why) = Err (refusal_told why)
+result_told (Ok line) = Ok (line_told line)
+
+-- what a line says, or its refusal
 unfoldable pub line_said : List ℕ → Result LogLine Why
-line_said line = if bytes_eq line (codes "model pso") then Ok Pso else if bytes_eq line (codes "end") then Ok End else tokens_said (tokens_of line)
+line_said line = result_told (line_read widths.Locations line)

@@ -1,13 +1,15 @@
 -- What the text of a log spells, and how it is refused.
-use Rattle.std.specs.Prelude.{◌≡◌, ◌⊎◌, ◌≢◌, ℕ, suc, ◌==◌, Bool, true, false, not, nat_eq, nat_lt, nat_le, max, List, [], ◌∷◌, ◌++◌, length, map, filter, Option, None, Some, Ok, Err, if◌then◌else◌}
-use Rattle.std.specs.List.{count_by, flat_map, list_any, range_with_len, sum_by}
-use Rattle.line_text.specs.Lines.{parts_of, is_empty}
+use Rattle.std.specs.Prelude.{◌≡◌, ◌⊎◌, ◌≢◌, ℕ, suc, ◌==◌, Bool, true, false, not, nat_eq, max, List, [], ◌∷◌, ◌++◌, length, map, filter, Option, None, Some, Result, Ok, Err, if◌then◌else◌}
+use Rattle.std.specs.BTreeMap.{insert_entry}
+use Rattle.std.specs.List.{count_by, flat_map, fold, list_any, range_with_len, sum_by}
+use Rattle.std.specs.Ordering.{nat_cmp}
+use Rattle.line_text.specs.Lines.{parts_of}
 use Rattle.tso_ops.specs.declared.settings.Order.{Order}
 use Rattle.tso_ops.specs.declared.settings.Order.TheVariants.{Tso as OrderTso, Pso as OrderPso}
 use Rattle.tso_text.specs.declared.faults.Why.{Why}
-use Rattle.tso_text.specs.declared.faults.Why.TheVariants.{BadLine, BadModel, InitOrder, ProcessorRange}
+use Rattle.tso_text.specs.declared.faults.Why.TheVariants.{BadLine}
 use Rattle.log_text.specs.declared.lines.LogLine.{LogLine}
-use Rattle.log_text.specs.declared.lines.LogLine.TheVariants.{Pso, First, Issued, Unknown, End}
+use Rattle.log_text.specs.declared.lines.LogLine.TheVariants.{Note, Pso, First, Issued, Unknown, Memory, End}
 use Rattle.log_text.specs.declared.logs.LogOperation.{LogOperation}
 use Rattle.log_text.specs.declared.logs.LogOperation.TheVariants.{Ld, St, Sw, Mb, Sb}
 use Rattle.log_text.specs.declared.logs.LoggedOperation.{LoggedOperation}
@@ -16,50 +18,71 @@ use Rattle.log_text.specs.LogValues.{NumberedLog}
 
 -- ---- the log of some lines
 
+-- the line says that the memory model is PSO
+abbrev pub is_model : LogLine → Bool
+is_model Note = false
+is_model Pso = true
+is_model (First a v) = false
+is_model (Issued p x) = false
+is_model (Unknown p a) = false
+is_model Memory = false
+is_model End = false
+
 -- PSO where a line says so, else TSO
 abbrev pub order_of : List LogLine → Order
-order_of [] = OrderTso
-order_of (Pso ∷ lines) = OrderPso
-order_of (First a v ∷ lines) = order_of lines
-order_of (Issued p x ∷ lines) = order_of lines
-order_of (Unknown p a ∷ lines) = order_of lines
-order_of (End ∷ lines) = order_of lines
+order_of lines = if list_any is_model lines then OrderPso else OrderTso
 
 -- the first value that the line says
 abbrev pub entries_in : LogLine → List (ℕ × ℕ)
+entries_in Note = []
 entries_in Pso = []
 entries_in (First a v) = (a, v) ∷ []
 entries_in (Issued p x) = []
 entries_in (Unknown p a) = []
+entries_in Memory = []
 entries_in End = []
+
+-- one more first value, in ascending order of addresses: it stands for one of its address before
+abbrev pub with_first : List (ℕ × ℕ) → ℕ × ℕ → List (ℕ × ℕ)
+with_first first entry = insert_entry nat_cmp first entry.0 entry.1
+
+-- the first values that the lines say
+abbrev pub first_values : List LogLine → List (ℕ × ℕ)
+first_values lines = fold with_first [] (flat_map entries_in lines)
 
 -- the address to which something unknown was done, by this line
 abbrev pub unknown_in : LogLine → List ℕ
+unknown_in Note = []
 unknown_in Pso = []
 unknown_in (First a v) = []
 unknown_in (Issued p x) = []
 unknown_in (Unknown p a) = a ∷ []
+unknown_in Memory = []
 unknown_in End = []
 
--- how many processors there are up to that of the line
+-- how many processors there are up to the one of which the line says something to a log
 abbrev pub processors_to : LogLine → ℕ
+processors_to Note = 0
 processors_to Pso = 0
 processors_to (First a v) = 0
 processors_to (Issued p x) = suc p
 processors_to (Unknown p a) = suc p
+processors_to Memory = 0
 processors_to End = 0
 
--- how many there are up to the last that has a line
+-- how many there are up to the last of which one says something
 abbrev pub processors_in : List LogLine → ℕ
 processors_in [] = 0
 processors_in (line ∷ lines) = max (processors_to line) (processors_in lines)
 
 -- the operation that the line of this number says, where it is one of processor p
 abbrev pub issued_in : ℕ → ℕ → LogLine → List LoggedOperation
+issued_in p number Note = []
 issued_in p number Pso = []
 issued_in p number (First a v) = []
 issued_in p number (Issued q x) = if p == q then record { line = number; operation = x } ∷ [] else []
 issued_in p number (Unknown q a) = []
+issued_in p number Memory = []
 issued_in p number End = []
 
 -- those that the lines from this number on say
@@ -95,53 +118,65 @@ left_out_by lines = sum_by (λ p. count_by (is_operation_at (flat_map unknown_in
 abbrev pub log_of_lines : List LogLine → NumberedLog
 log_of_lines lines = record {
   order = order_of lines;
-  first = flat_map entries_in lines;
+  first = first_values lines;
   lists = map (issued_by lines) (range_with_len 0 (processors_in lines));
   left_out = left_out_by lines;
 }
 
 -- ---- the faults of lines
 
--- the line is of a processor
-abbrev pub is_issued : LogLine → Bool
-is_issued Pso = false
-is_issued (First a v) = false
-is_issued (Issued p x) = true
-is_issued (Unknown p a) = true
-is_issued End = false
+-- the line says something
+abbrev pub is_telling : LogLine → Bool
+is_telling Note = false
+is_telling Pso = true
+is_telling (First a v) = true
+is_telling (Issued p x) = true
+is_telling (Unknown p a) = true
+is_telling Memory = true
+is_telling End = true
 
--- the line is of an address that isn't below this one
-abbrev pub is_not_below : ℕ → LogLine → Bool
-is_not_below a Pso = false
-is_not_below a (First b v) = nat_le a b
-is_not_below a (Issued p x) = false
-is_not_below a (Unknown p b) = false
-is_not_below a End = false
+-- the line is a step of a processor
+abbrev pub is_step : LogLine → Bool
+is_step Note = false
+is_step Pso = false
+is_step (First a v) = false
+is_step (Issued p x) = true
+is_step (Unknown p a) = true
+is_step Memory = true
+is_step End = false
 
 -- the line says that nothing follows
 abbrev pub is_end : LogLine → Bool
+is_end Note = false
 is_end Pso = false
 is_end (First a v) = false
 is_end (Issued p x) = false
 is_end (Unknown p a) = false
+is_end Memory = false
 is_end End = true
 
--- the greatest number of a processor
-abbrev pub greatest_processor : ℕ
-greatest_processor = 4095
+-- the line may stand after these, none of which is `end`: the memory model stands before all that says something, and first values before all steps
+abbrev pub may_follow : List LogLine → LogLine → Bool
+may_follow before Note = true
+may_follow before Pso = not (list_any is_telling before)
+may_follow before (First a v) = not (list_any is_step before)
+may_follow before (Issued p x) = true
+may_follow before (Unknown p a) = true
+may_follow before Memory = true
+may_follow before End = true
 
--- The fault of a line where it may stand after these: the memory model stands in the first line, first values stand before all lines of processors and
--- in the order of their addresses, and processors are 0 to 4,095.
-abbrev pub fault_among : List LogLine → LogLine → Option Why
-fault_among before Pso = if is_empty before then None else Some BadModel
-fault_among before (First a v) = if list_any is_issued before then Some BadLine else if list_any (is_not_below a) before then Some InitOrder else None
-fault_among before (Issued p x) = if nat_lt greatest_processor p then Some ProcessorRange else None
-fault_among before (Unknown p a) = if nat_lt greatest_processor p then Some ProcessorRange else None
-fault_among before End = None
-
--- the fault of a line after these: none stands after a line `end`
+-- the fault of a line after these, if it has one: none stands after a line `end`
 abbrev pub fault_after : List LogLine → LogLine → Option Why
-fault_after before line = if list_any is_end before then Some BadLine else fault_among before line
+fault_after before line = if list_any is_end before then Some BadLine else if may_follow before line then None else Some BadLine
+
+-- that of bytes after these lines which say this, or are refused
+abbrev pub fault_of_said : List LogLine → Result LogLine Why → Option Why
+fault_of_said before (Err why) = if list_any is_end before then Some BadLine else Some why
+fault_of_said before (Ok line) = fault_after before line
+
+-- that of the bytes of a line
+abbrev pub line_fault : List LogLine → List ℕ → Option Why
+line_fault before text = fault_of_said before (line_said text)
 
 -- each of the lines says what stands in its place, and none has a fault
 pub record AreSaid (texts : List (List ℕ)) (lines : List LogLine) : Type 0 where
@@ -170,11 +205,11 @@ pub record IsEndedLog (text : List ℕ) : Type 0 where
 abbrev pub IsEndedAsNeeded : Bool → List ℕ → Type 0
 IsEndedAsNeeded needs_end text = needs_end ≡ true → IsEndedLog text
 
--- A part of a text is refused after these lines: it says nothing, it has a fault, or it is the last part and no line end follows it, or none of the lines
--- is an `end` that the text needs.
+-- A part of a text is refused after these lines: it has a fault, or it is the last part and no line end follows it, or none of the lines is an `end` that
+-- the text needs.
 abbrev pub IsPartRefused : Bool → List LogLine → List ℕ → List (List ℕ) → Why → Type 0
 IsPartRefused needs_end before part [] why = ((part ≢ []) ⊎ ((needs_end ≡ true) × (list_any is_end before ≡ false))) × (why ≡ BadLine)
-IsPartRefused needs_end before part (next ∷ after) why = (line_said part ≡ Err why) ⊎ (line : LogLine) × (line_said part ≡ Ok line) × (fault_after before line ≡ Some why)
+IsPartRefused needs_end before part (next ∷ after) why = line_fault before part ≡ Some why
 
 -- The refusal of a text: its first line with a fault, counted from 1, and that fault. Where an `end` is needed and missing, the line after all others has it.
 pub record IsLogRefusal (needs_end : Bool) (text : List ℕ) (line : ℕ) (why : Why) : Type 0 where

@@ -1,16 +1,18 @@
+//! What the lines of a text say to a log.
 ghost use Rattle.std.specs.Prelude.{◌≡◌};
-ghost use Rattle.line_text.specs.Lines.{tokens_after};
-ghost use Rattle.line_text.specs.Numbers.{number};
-ghost use Rattle.log_text.specs.LogLines.{line_said, issued_said, operation_said, processor_said};
+ghost use Rattle.run_lines.specs.Lines.{numbers_of_step, step_word, text_numbers};
+ghost use Rattle.log_text.specs.LogLines.{line_said, line_told, refusal_told, step_told};
 
 use crate::logs::LogOperation;
-use line_text::{next_token, number_of};
-use tso_text::words::{LD, MB, ST, STBAR, SW};
-use tso_text::{Why, no_number, one_number, three_numbers, two_numbers};
+use run_lines::{RunText, Widths, line_read};
+use run_steps::RunStep;
+use tso_text::Why;
 
-/// What a line of a log says.
+/// What a line says to a log.
 #[derive(Clone, Copy)]
 pub(crate) enum LogLine {
+    /// Nothing.
+    Note,
     /// The memory model is PSO.
     Pso,
     /// A first value of an address.
@@ -19,81 +21,90 @@ pub(crate) enum LogLine {
     Issued { p: u64, x: LogOperation },
     /// A processor did something else to the location at an address.
     Unknown { p: u64, a: u64 },
+    /// A store reached memory, or what memory holds at the end: a log says neither.
+    Memory,
     /// Nothing follows.
     End,
 }
 
-/// What a line says, without its line end.
-///
-/// Refused as BadLine where it is no line of a log, as BadNumber where a token after a keyword is no number, and as BadModel
-/// where its first token is `model` and it isn't `model pso`.
-#[tactic(auto, unfolding(crate::specs::LogLines::line_said, crate::specs::LogLines::tokens_said))]
+/// What a line says to a log, without its line end. Refused as a line of a run is, or as Widths where its place has a width.
+#[tactic(auto, unfolding(crate::specs::LogLines::line_said))]
 pub(crate) fn line_said(line: &[u8]) -> Result<LogLine, Why>
     ensures { result ≡ line_said line.now }
 {
-    if line == b"model pso".as_slice() {
-        return Ok(LogLine::Pso);
-    }
-    if line == b"end".as_slice() {
-        return Ok(LogLine::End);
-    }
-    let (word, tokens) = next_token(line);
-    if word == b"init".as_slice() {
-        let (a, v) = two_numbers(tokens)?;
-        Ok(LogLine::First { a, v })
-    } else if word == b"model".as_slice() {
-        Err(Why::BadModel)
-    } else {
-        let p = processor_said(word)?;
-        issued_said(p, tokens)
+    match line_read(Widths::Locations, line) {
+        Ok(said) => Ok(line_told(said)),
+        Err(why) => Err(refusal_told(why)),
     }
 }
 
-/// The processor that the first token of a line is; BadLine where it is no number.
-fn processor_said(word: &[u8]) -> Result<u64, Why>
-    ensures { result ≡ processor_said (number word.now) }
+/// What a line of a run says to a log.
+fn line_told(said: RunText) -> LogLine
+    ensures { result ≡ line_told (text_numbers said) }
 {
-    number_of(word).ok_or(Why::BadLine)
-}
-
-/// What the tokens after the processor say of it, refused as a line is.
-#[tactic(auto, unfolding(crate::specs::LogLines::issued_said))]
-fn issued_said(p: u64, tokens: Option<&[u8]>) -> Result<LogLine, Why>
-    ensures { result ≡ issued_said p (tokens_after tokens.entry) }
-{
-    let Some(rest) = tokens else {
-        return Err(Why::BadLine);
-    };
-    let (word, tokens) = next_token(rest);
-    if word == b"un".as_slice() {
-        let a = one_number(tokens)?;
-        return Ok(LogLine::Unknown { p, a });
+    match said {
+        RunText::Note => LogLine::Note,
+        RunText::Pso => LogLine::Pso,
+        RunText::First { place, value } => LogLine::First {
+            a: place.address,
+            v: value,
+        },
+        RunText::Step { processor, step } => step_told(processor, step),
+        RunText::End => LogLine::End,
     }
-    let x = operation_said(word, tokens)?;
-    Ok(LogLine::Issued { p, x })
 }
 
-/// The operation that a keyword and the tokens after it say.
-#[tactic(auto, unfolding(crate::specs::LogLines::operation_said))]
-fn operation_said(word: &[u8], tokens: Option<&[u8]>) -> Result<LogOperation, Why>
-    ensures { result ≡ operation_said word.now (tokens_after tokens.entry) }
+/// What a step of a run says to a log.
+fn step_told(p: u64, step: RunStep) -> LogLine
+    ensures { result ≡ step_told p (step_word step) (numbers_of_step step) }
 {
-    if word == LD.as_bytes() {
-        let (a, r) = two_numbers(tokens)?;
-        Ok(LogOperation::Ld { a, r })
-    } else if word == ST.as_bytes() {
-        let (a, v) = two_numbers(tokens)?;
-        Ok(LogOperation::St { a, v })
-    } else if word == SW.as_bytes() {
-        let (a, r, v) = three_numbers(tokens)?;
-        Ok(LogOperation::Sw { a, r, v })
-    } else if word == MB.as_bytes() {
-        no_number(tokens)?;
-        Ok(LogOperation::Mb)
-    } else if word == STBAR.as_bytes() {
-        no_number(tokens)?;
-        Ok(LogOperation::Sb)
-    } else {
-        Err(Why::BadLine)
+    match step {
+        RunStep::Load { place, value } | RunStep::Reserve { place, value } => LogLine::Issued {
+            p,
+            x: LogOperation::Ld {
+                a: place.address,
+                r: value,
+            },
+        },
+        RunStep::Store { place, value }
+        | RunStep::Write { place, value }
+        | RunStep::StoreReserved { place, value } => LogLine::Issued {
+            p,
+            x: LogOperation::St {
+                a: place.address,
+                v: value,
+            },
+        },
+        RunStep::Swap { place, read, value } => LogLine::Issued {
+            p,
+            x: LogOperation::Sw {
+                a: place.address,
+                r: read,
+                v: value,
+            },
+        },
+        RunStep::Membar => LogLine::Issued {
+            p,
+            x: LogOperation::Mb,
+        },
+        RunStep::Stbar => LogLine::Issued {
+            p,
+            x: LogOperation::Sb,
+        },
+        RunStep::Unknown { place } => LogLine::Unknown {
+            p,
+            a: place.address,
+        },
+        RunStep::Drain { .. } | RunStep::Last { .. } => LogLine::Memory,
+    }
+}
+
+/// The refusal of a log by that of a line in whose text no place has a width.
+fn refusal_told(why: Why) -> Why
+    ensures { result ≡ refusal_told why }
+{
+    match why {
+        Why::MixedWidths => Why::Widths,
+        other => other,
     }
 }

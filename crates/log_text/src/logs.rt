@@ -33,7 +33,7 @@ pub struct Log {
     pub order: Order,
     /// Addresses, in ascending order, and what memory has there at first: 0 at all others.
     pub first: Vec<(u64, u64)>,
-    /// The operations of processors 0, 1, .. up to the last that has a line, each in program order.
+    /// The operations of processors 0, 1, .. up to the last that has one or a line `un`, each in program order.
     pub lists: Vec<Vec<LoggedOperation>>,
     /// How many operations of the text aren't there, since a line `un` names their address.
     pub left_out: usize,

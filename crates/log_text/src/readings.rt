@@ -1,30 +1,34 @@
 //! A log while its text is read: it holds what the lines so far say.
-ghost use Rattle.std.specs.Prelude.{◌≡◌, ◌&&◌, ◌++◌, ◌∷◌, [], ◌+◌, ◌<◌, ℕ, List, length, get_or, set, OnOk, IfOk, IfErr, vec_len, max, not};
-ghost use Rattle.line_text.specs.Lines.{is_empty};
+ghost use Rattle.std.specs.Prelude.{◌≡◌, ◌&&◌, ◌++◌, ◌∷◌, [], ◌+◌, ◌<◌, ℕ, List, length, get_or, set, OnOk, IfOk, IfErr, vec_len, max, not, true};
 ghost use Rattle.tso_ops.specs.Values.{rows};
-ghost use Rattle.log_text.specs.Internal.Readings.{HoldsLines, IsAccepted, IsAcceptedAmong, IsRefused, IsRefusedAmong, IsTextAccepted, IsTextRefused, IsLastGreatest, has_not_below};
+ghost use Rattle.log_text.specs.Internal.Readings.{Adds, HoldsLines, IsTextAccepted, IsTextRefused};
 ghost use Rattle.log_text.specs.declared.lines.LogLine.{LogLine};
-ghost use Rattle.log_text.specs.LogTexts.{log_of_lines};
+ghost use Rattle.log_text.specs.LogTexts.{log_of_lines, may_follow};
 ghost use Rattle.log_text.specs.LogValues.{log_value};
-ghost use Rattle.tso_text.specs.declared.faults.Why.{Why};
 
 use crate::known::leave_out;
 use crate::lines::{LogLine, line_said};
 use crate::logs::{Log, LogOperation, LoggedOperation};
 use std::alloc::{AllocFailed, Global};
+use std::collections::BTreeMap;
 use tso_ops::{Order, OutOfMemory};
 use tso_text::Why;
-
-/// The greatest number of a processor.
-const MAX_PROCESSOR: u64 = 4095;
 
 /// What the lines so far say.
 #[derive(Drop)]
 pub(crate) struct Reading {
-    /// All operations, also those at addresses of lines `un`.
-    pub(crate) log: Log,
+    /// The memory model.
+    pub(crate) order: Order,
+    /// What memory has at first, by address.
+    pub(crate) first: BTreeMap<u64, u64>,
+    /// All operations of each processor, also those at addresses of lines `un`.
+    pub(crate) lists: Vec<Vec<LoggedOperation>>,
     /// The addresses of lines `un`.
     pub(crate) unknown: Vec<u64>,
+    /// Whether a line came that says something.
+    pub(crate) is_begun: bool,
+    /// Whether a step of a processor came.
+    pub(crate) has_steps: bool,
     /// Whether a line `end` came.
     pub(crate) is_ended: bool,
 }
@@ -35,13 +39,12 @@ impl Reading {
         ensures start { HoldsLines result [] }
     {
         Reading {
-            log: Log {
-                order: Order::Tso,
-                first: Vec::new(alloc),
-                lists: Vec::new(alloc),
-                left_out: 0,
-            },
+            order: Order::Tso,
+            first: BTreeMap::new(alloc),
+            lists: Vec::new(alloc),
             unknown: Vec::new(alloc),
+            is_begun: false,
+            has_steps: false,
             is_ended: false,
         }
     }
@@ -57,120 +60,115 @@ impl Reading {
         ensures accepted { OnOk result (IsTextAccepted self.old number line.now self.new) }
         ensures refused { IfErr result (IsTextRefused self.old line.now) }
     {
-        let said = line_said(line)?;
-        self.accept(alloc, number, said)
-    }
-
-    /// Accepts what the next line says, or refuses it for its fault; or OutOfMemory.
-    fn accept(&mut self, alloc: Global, number: usize, line: LogLine) -> Result<(), Why>
-        requires { (before : List LogLine) × HoldsLines self.old before }
-        ensures accepted { OnOk result (IsAccepted self.old number line self.new) }
-        ensures refused { IfErr result (IsRefused self.old line) }
-    {
         if self.is_ended {
             return Err(Why::BadLine);
         }
-        self.accept_among(alloc, number, line)
-    }
-
-    /// Accepts what the next line says, where no line `end` came, or refuses it for its fault; or OutOfMemory.
-    fn accept_among(&mut self, alloc: Global, number: usize, line: LogLine) -> Result<(), Why>
-        requires { (before : List LogLine) × HoldsLines self.old before }
-        ensures accepted { OnOk result (IsAcceptedAmong self.old number line self.new) }
-        ensures refused { IfErr result (IsRefusedAmong self.old line) }
-    {
-        match line {
-            LogLine::Pso => self.accept_model(number),
-            LogLine::First { a, v } => self.accept_entry(number, a, v),
-            LogLine::Issued { p, x } => self.accept_operation(alloc, number, p, x),
-            LogLine::Unknown { p, a } => self.accept_unknown(alloc, number, p, a),
-            LogLine::End => self.accept_end(number),
-        }
-    }
-
-    /// Accepts that nothing follows.
-    fn accept_end(&mut self, number: usize) -> Result<(), Why>
-        ensures accepted { OnOk result (IsAcceptedAmong self.old number LogLine.End self.new) }
-        ensures refused { IfErr result (IsRefusedAmong self.old LogLine.End) }
-    {
-        self.is_ended = true;
-        Ok(())
-    }
-
-    /// Accepts that the memory model is PSO, where no line came before.
-    fn accept_model(&mut self, number: usize) -> Result<(), Why>
-        ensures accepted { OnOk result (IsAcceptedAmong self.old number LogLine.Pso self.new) }
-        ensures refused { IfErr result (IsRefusedAmong self.old LogLine.Pso) }
-    {
-        if !self.is_untouched() {
-            return Err(Why::BadModel);
-        }
-        self.log.order = Order::Pso;
-        Ok(())
-    }
-
-    /// Whether no line came.
-    fn is_untouched(&self) -> bool
-        ensures { (before : List LogLine) → HoldsLines self.now before → result ≡ is_empty before }
-    {
-        !self.is_ended
-            && matches!(self.log.order, Order::Tso)
-            && self.log.first.is_empty()
-            && self.log.lists.is_empty()
-    }
-
-    /// Accepts a first value, where no line of a processor came before and its address is above those before.
-    fn accept_entry(&mut self, number: usize, a: u64, v: u64) -> Result<(), Why>
-        requires { (before : List LogLine) × HoldsLines self.old before }
-        ensures accepted { OnOk result (IsAcceptedAmong self.old number (LogLine.First a v) self.new) }
-        ensures refused { IfErr result (IsRefusedAmong self.old (LogLine.First a v)) }
-    {
-        if !self.log.lists.is_empty() {
+        let said = line_said(line)?;
+        if !self.may_follow(said) {
             return Err(Why::BadLine);
         }
-        if is_not_above(&self.log.first, a) {
-            return Err(Why::InitOrder);
+        match self.take(alloc, number, said) {
+            Ok(()) => Ok(()),
+            Err(_) => Err(Why::OutOfMemory),
         }
-        self.log.first.push((a, v))?;
+    }
+
+    /// Whether what a line says may follow the lines so far, where no line `end` came.
+    fn may_follow(&self, line: LogLine) -> bool
+        ensures { (before : List LogLine) → HoldsLines self.now before → result ≡ may_follow before line }
+    {
+        match line {
+            LogLine::Pso => !self.is_begun,
+            LogLine::First { .. } => !self.has_steps,
+            _ => true,
+        }
+    }
+
+    /// Takes what the line of this number says. OutOfMemory where an allocation was refused.
+    fn take(&mut self, alloc: Global, number: usize, line: LogLine) -> Result<(), OutOfMemory>
+        ensures { OnOk result (Adds self.old number line self.new) }
+    {
+        match line {
+            LogLine::Note => Ok(()),
+            LogLine::Pso => {
+                self.take_model();
+                Ok(())
+            }
+            LogLine::First { a, v } => self.take_first(a, v),
+            LogLine::Issued { p, x } => self.take_operation(alloc, number, p, x),
+            LogLine::Unknown { p, a } => self.take_unknown(alloc, p, a),
+            LogLine::Memory => {
+                self.take_step();
+                Ok(())
+            }
+            LogLine::End => {
+                self.take_end();
+                Ok(())
+            }
+        }
+    }
+
+    /// Takes that the memory model is PSO.
+    fn take_model(&mut self)
+        ensures { (number : ℕ) → Adds self.old number LogLine.Pso self.new }
+    {
+        self.order = Order::Pso;
+        self.is_begun = true;
+    }
+
+    /// Takes a first value of an address.
+    fn take_first(&mut self, a: u64, v: u64) -> Result<(), OutOfMemory>
+        ensures { OnOk result ((number : ℕ) → Adds self.old number (LogLine.First a v) self.new) }
+    {
+        self.is_begun = true;
+        self.first.insert(a, v)?;
         Ok(())
     }
 
-    /// Accepts an operation of a processor, which is at most 4,095.
-    fn accept_operation(
+    /// Takes an operation of a processor.
+    fn take_operation(
         &mut self,
         alloc: Global,
         number: usize,
         p: u64,
         x: LogOperation,
-    ) -> Result<(), Why>
-        requires { (before : List LogLine) × HoldsLines self.old before }
-        ensures accepted { OnOk result (IsAcceptedAmong self.old number (LogLine.Issued p x) self.new) }
-        ensures refused { IfErr result (IsRefusedAmong self.old (LogLine.Issued p x)) }
+    ) -> Result<(), OutOfMemory>
+        ensures { OnOk result (Adds self.old number (LogLine.Issued p x) self.new) }
     {
-        if p > MAX_PROCESSOR {
-            return Err(Why::ProcessorRange);
-        }
-        grow(alloc, &mut self.log.lists, p as usize)?;
+        self.take_step();
+        grow(alloc, &mut self.lists, p as usize)?;
         let logged = LoggedOperation {
             line: number,
             operation: x,
         };
-        push_at(&mut self.log.lists, p as usize, logged)?;
+        push_at(&mut self.lists, p as usize, logged)?;
         Ok(())
     }
 
-    /// Accepts that a processor, which is at most 4,095, did something unknown to the location at an address.
-    fn accept_unknown(&mut self, alloc: Global, number: usize, p: u64, a: u64) -> Result<(), Why>
-        requires { (before : List LogLine) × HoldsLines self.old before }
-        ensures accepted { OnOk result (IsAcceptedAmong self.old number (LogLine.Unknown p a) self.new) }
-        ensures refused { IfErr result (IsRefusedAmong self.old (LogLine.Unknown p a)) }
+    /// Takes that a processor did something unknown to the location at an address.
+    fn take_unknown(&mut self, alloc: Global, p: u64, a: u64) -> Result<(), OutOfMemory>
+        ensures { OnOk result ((number : ℕ) → Adds self.old number (LogLine.Unknown p a) self.new) }
     {
-        if p > MAX_PROCESSOR {
-            return Err(Why::ProcessorRange);
-        }
-        grow(alloc, &mut self.log.lists, p as usize)?;
+        self.take_step();
+        grow(alloc, &mut self.lists, p as usize)?;
         self.unknown.push(a)?;
         Ok(())
+    }
+
+    /// Takes that a step of a processor came.
+    fn take_step(&mut self)
+        ensures { self.new ≡ record self.old { is_begun = true; has_steps = true } }
+    {
+        self.is_begun = true;
+        self.has_steps = true;
+    }
+
+    /// Takes that nothing follows.
+    fn take_end(&mut self)
+        ensures { (number : ℕ) → Adds self.old number LogLine.End self.new }
+    {
+        self.is_begun = true;
+        self.is_ended = true;
     }
 
     /// Whether the line `end` is needed and didn't come.
@@ -184,9 +182,32 @@ impl Reading {
     pub(crate) fn log(self, alloc: Global) -> Result<Log, OutOfMemory>
         ensures { IfOk result (λ log. (lines : List LogLine) → HoldsLines self lines → log_value log ≡ log_of_lines lines) }
     {
-        let Reading { log, unknown, .. } = self;
+        let Reading {
+            order,
+            first,
+            lists,
+            unknown,
+            ..
+        } = self;
+        let log = Log {
+            order,
+            first: entries_of(alloc, first)?,
+            lists,
+            left_out: 0,
+        };
         leave_out(alloc, log, &unknown)
     }
+}
+
+/// The entries of a map, in ascending order of their keys.
+fn entries_of(alloc: Global, map: BTreeMap<u64, u64>) -> Result<Vec<(u64, u64)>, OutOfMemory>
+    ensures { IfOk result (λ entries. entries.items ≡ map.entries) }
+{
+    let mut entries = Vec::new(alloc);
+    for (a, v) in map {
+        entries.push((a, v))?;
+    }
+    Ok(entries)
 }
 
 /// Appends lists without operations until there is one of processor `p`.
@@ -195,7 +216,6 @@ fn grow(
     lists: &mut Vec<Vec<LoggedOperation>>,
     p: usize,
 ) -> Result<(), AllocFailed<Vec<LoggedOperation>>>
-    requires { p < 4096 }
     ensures count { OnOk result (length (rows lists.new.items) ≡ max (p + 1) (length (rows lists.old.items))) }
     ensures same { OnOk result ((q : ℕ) → get_or (rows lists.new.items) q [] ≡ get_or (rows lists.old.items) q []) }
 {
@@ -203,17 +223,6 @@ fn grow(
         lists.push(Vec::new(alloc))?;
     }
     Ok(())
-}
-
-/// Whether an address isn't above those of all these entries, of which the last has the greatest.
-fn is_not_above(first: &[(u64, u64)], a: u64) -> bool
-    requires { IsLastGreatest first.now }
-    ensures { result ≡ has_not_below a first.now }
-{
-    match first.last() {
-        Some(entry) => a <= entry.0,
-        None => false,
-    }
 }
 
 /// Appends an operation to the list of this processor.

@@ -1,7 +1,8 @@
 //! What a person is told whose request was refused: what the text looks like, and what reads such texts; or within which
 //! limits numbers are taken.
 
-use line_text::{next_line, next_token, number_of};
+use line_text::{next_line, next_token};
+use run_lines::{Widths, line_read};
 
 /// Told where a shape was refused.
 pub const SHAPE_LIMITS: &str =
@@ -43,7 +44,10 @@ impl Likeness {
 
     /// By the first line, without its line end.
     fn of_line(line: &[u8]) -> Likeness {
-        let (first, rest) = next_token(line);
+        if line_read(Widths::Unseen, line).is_ok() {
+            return Likeness::Log;
+        }
+        let (_, rest) = next_token(line);
         let Some(rest) = rest else {
             return Likeness::Other;
         };
@@ -52,8 +56,6 @@ impl Likeness {
             Likeness::Trace
         } else if second == b"program".as_slice() {
             Likeness::Program
-        } else if begins_log(first, second) {
-            Likeness::Log
         } else {
             Likeness::Other
         }
@@ -78,23 +80,4 @@ impl Likeness {
             _ => None,
         }
     }
-}
-
-/// Whether a log may begin with a line of these first two tokens.
-fn begins_log(first: &[u8], second: &[u8]) -> bool {
-    if first == b"init".as_slice() || first == b"model".as_slice() {
-        return true;
-    }
-    number_of(first).is_some() && is_operation(second)
-}
-
-/// Whether a token names what a processor did, in a log.
-fn is_operation(token: &[u8]) -> bool {
-    let names = ["ld", "st", "sw", "mb", "stbar", "un"];
-    for name in names {
-        if token == name.as_bytes() {
-            return true;
-        }
-    }
-    false
 }

@@ -4,9 +4,7 @@ use Rattle.std.specs.Option.{option_map_or}
 use Rattle.tso_ops.specs.declared.settings.Order.{Order}
 use Rattle.tso_ops.specs.declared.settings.Order.TheVariants.{Tso, Pso}
 use Rattle.tso_text.specs.declared.faults.Why.{Why}
-use Rattle.tso_text.specs.declared.faults.Why.TheVariants.{BadLine, BadNumber, MixedWidths, TooManyWaiting}
-use Rattle.run_lines.specs.declared.arguments.LineRefusal.{LineRefusal}
-use Rattle.run_lines.specs.declared.arguments.LineRefusal.TheVariants as refusal
+use Rattle.tso_text.specs.declared.faults.Why.TheVariants.{BadLine, TooManyWaiting}
 use Rattle.run_lines.specs.declared.arguments.Widths.{Widths}
 use Rattle.run_lines.specs.declared.arguments.Widths.TheVariants.{Unseen}
 use Rattle.run_lines.specs.declared.lines.RunText.{RunText}
@@ -115,11 +113,6 @@ is_full state text.End = false
 abbrev pub said_fault : Account → RunText → Option Why
 said_fault account said = option_map_or (λ stage. if is_full account.state said then Some TooManyWaiting else None) (stage_after account.stage said) (Some BadLine)
 
-abbrev pub why_of : LineRefusal → Why
-why_of refusal.BadLine = BadLine
-why_of refusal.BadNumber = BadNumber
-why_of refusal.MixedWidths = MixedWidths
-
 -- The next line may follow, and this is what the lines say with it.
 pub record IsAccepted (account : Account) (line : List ℕ) (next : Account) : Type 0 where
   pub said : RunText
@@ -131,7 +124,7 @@ pub record IsAccepted (account : Account) (line : List ℕ) (next : Account) : T
 -- what can't be read, or may not follow
 abbrev pub HasFault : Account → List ℕ → Why → Type 0
 HasFault account line why =
-    ((refused : LineRefusal) × (line_read account.widths line ≡ Err refused) × (why ≡ why_of refused))
+    (line_read account.widths line ≡ Err why)
     ⊎ ((said : RunText) × (line_read account.widths line ≡ Ok (text_numbers said)) × (said_fault account said ≡ Some why))
 
 -- Why the next line is refused: nothing follows a line `end`, it can't be read, or it may not follow.

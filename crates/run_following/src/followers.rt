@@ -2,7 +2,7 @@
 ghost use Rattle.std.specs.Prelude.{◌≡◌, ◌<◌, ◌+◌, ◌++◌, ◌∷◌, [], IfErr, IfOk, OnOk, Some, true, length};
 ghost use Rattle.run_lines.specs.Lines.{HasProcessor, is_plain};
 ghost use Rattle.run_steps.specs.Machine.{state_of_machine};
-ghost use Rattle.run_following.specs.Accounts.{Account, Follows, account_at_start, is_full, is_waiting_store, why_of, with_line, with_said, with_step};
+ghost use Rattle.run_following.specs.Accounts.{Account, Follows, account_at_start, is_full, is_waiting_store, with_line, with_said, with_step};
 ghost use Rattle.run_following.specs.Internal.Answers.{IsAnswered, IsAnsweredSaid};
 ghost use Rattle.run_following.specs.Internal.Faults.{IsRunFault};
 ghost use Rattle.run_following.specs.KeptLines.{kept_texts};
@@ -13,7 +13,7 @@ use crate::noted::NotedRefusals;
 use crate::stages::{Stage, stage_after};
 use crate::tallies::Tally;
 use crate::widths::widths_after;
-use run_lines::{LineRefusal, RunText, Widths, line_read};
+use run_lines::{RunText, Widths, line_read};
 use run_steps::{Machine, RunLine, RunStep};
 use std::alloc::Global;
 use std::str;
@@ -65,7 +65,7 @@ impl Follower {
             return Ok(Some(Why::BadLine));
         }
         match line_read(self.widths, line) {
-            Err(refusal) => Ok(Some(why_of(refusal))),
+            Err(why) => Ok(Some(why)),
             Ok(said) => self.accept_said(alloc, line, said),
         }
     }
@@ -189,15 +189,4 @@ fn is_waiting_store(step: &RunStep) -> bool
     ensures { result ≡ is_waiting_store step.now }
 {
     matches!(step, RunStep::Store { .. })
-}
-
-/// The refusal of a line, as that of a text.
-fn why_of(refusal: LineRefusal) -> Why
-    ensures { result ≡ why_of refusal }
-{
-    match refusal {
-        LineRefusal::BadLine => Why::BadLine,
-        LineRefusal::BadNumber => Why::BadNumber,
-        LineRefusal::MixedWidths => Why::MixedWidths,
-    }
 }

@@ -7,8 +7,8 @@ use Rattle.line_text.specs.Results.{◌>>=◌}
 use Rattle.run_steps.specs.declared.places.Place.{Place}
 use Rattle.run_steps.specs.declared.steps.RunStep.{RunStep}
 use Rattle.run_steps.specs.declared.steps.RunStep.TheVariants.{Load, Store, Drain, Write, Swap, Reserve, StoreReserved, Membar, Stbar, Unknown, Last}
-use Rattle.run_lines.specs.declared.arguments.LineRefusal.{LineRefusal}
-use Rattle.run_lines.specs.declared.arguments.LineRefusal.TheVariants.{BadLine, BadNumber}
+use Rattle.tso_text.specs.declared.faults.Why.{Why}
+use Rattle.tso_text.specs.declared.faults.Why.TheVariants.{BadLine, BadNumber}
 use Rattle.run_lines.specs.declared.arguments.Widths.{Widths}
 use Rattle.run_lines.specs.declared.lines.RunText.{RunText}
 use Rattle.run_lines.specs.declared.lines.RunText.TheVariants as text
@@ -57,7 +57,7 @@ numbers_of_step (Unknown place) = with_place place []
 numbers_of_step (Last place v) = with_place place (v ∷ [])
 
 -- the numbers of a step that is read
-abbrev pub step_left : Result RunStep LineRefusal → Result (List ℕ) LineRefusal
+abbrev pub step_left : Result RunStep Why → Result (List ℕ) Why
 step_left (Err why) = Err why
 step_left (Ok step) = Ok (numbers_of_step step)
 
@@ -68,13 +68,13 @@ abbrev pub is_access : List ℕ → Bool
 is_access word = bytes_eq word (codes "ld") || bytes_eq word (codes "st") || bytes_eq word (codes "wr") || bytes_eq word (codes "lr") || bytes_eq word (codes "sc") || bytes_eq word (codes "last")
 
 -- after `dr`: nothing, a place, or a place and a value
-abbrev pub drain_said : Widths → List (List ℕ) → Result (List ℕ) LineRefusal
+abbrev pub drain_said : Widths → List (List ℕ) → Result (List ℕ) Why
 drain_said before [] = Ok []
 drain_said before (part ∷ []) = place_alone before (part ∷ [])
 drain_said before (part ∷ other ∷ parts) = place_and_value before (part ∷ other ∷ parts)
 
 -- the numbers after a keyword
-unfoldable pub numbers_said : Widths → List ℕ → List (List ℕ) → Result (List ℕ) LineRefusal
+unfoldable pub numbers_said : Widths → List ℕ → List (List ℕ) → Result (List ℕ) Why
 numbers_said before word parts =
     if is_access word then place_and_value before parts
     else if bytes_eq word (codes "dr") then drain_said before parts
@@ -113,29 +113,29 @@ HasProcessor (text.Step p s) = p < 4096
 HasProcessor text.End = Unit {0}
 
 -- those of a line that is read
-abbrev pub line_left : Result RunText LineRefusal → Result LineNumbers LineRefusal
+abbrev pub line_left : Result RunText Why → Result LineNumbers Why
 line_left (Err why) = Err why
 line_left (Ok said) = Ok (text_numbers said)
 
 -- the processor that a part is
-abbrev pub processor_read : Option ℕ → Result ℕ LineRefusal
+abbrev pub processor_read : Option ℕ → Result ℕ Why
 processor_read None = Err BadLine
 processor_read (Some p) = if nat_lt 4095 p then Err BadNumber else Ok p
 
 -- what stands after a processor: a keyword, and its place and values
-abbrev pub keyword_said : Widths → ℕ → List (List ℕ) → Result LineNumbers LineRefusal
+abbrev pub keyword_said : Widths → ℕ → List (List ℕ) → Result LineNumbers Why
 keyword_said before p [] = Err BadLine
 keyword_said before p (word ∷ parts) = numbers_said before word parts >>= λ numbers. Ok (step p word numbers)
 
 -- what the parts of a line say: `init` and a first value, or a processor and what it did
-unfoldable pub tokens_read : Widths → List (List ℕ) → Result LineNumbers LineRefusal
+unfoldable pub tokens_read : Widths → List (List ℕ) → Result LineNumbers Why
 tokens_read before [] = Err BadLine
 tokens_read before (word ∷ parts) =
     if bytes_eq word (codes "init") then place_and_value before parts >>= (λ numbers. Ok (first numbers))
     else processor_read (number_spelled word) >>= λ p. keyword_said before p parts
 
 -- what a line without its tag says
-unfoldable pub parts_said : Widths → List ℕ → Result LineNumbers LineRefusal
+unfoldable pub parts_said : Widths → List ℕ → Result LineNumbers Why
 parts_said before said = if bytes_eq said (codes "model pso") then Ok pso else if bytes_eq said (codes "end") then Ok finish else tokens_read before (tokens_of said)
 
 -- the line is ASCII
@@ -143,5 +143,5 @@ abbrev pub is_plain : List ℕ → Bool
 is_plain line = list_all (λ b. nat_lt b 128) line
 
 -- what a line says, or its refusal, in a text whose places were these before
-abbrev pub line_read : Widths → List ℕ → Result LineNumbers LineRefusal
+abbrev pub line_read : Widths → List ℕ → Result LineNumbers Why
 line_read before line = if not (is_plain line) then Err BadLine else if begins_tag line then Ok note else parts_said before (before_tag line)

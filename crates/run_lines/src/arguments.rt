@@ -7,17 +7,7 @@ use crate::numerals::numeral_of;
 use crate::places::place_of;
 use line_text::next_token;
 use run_steps::Place;
-
-/// Why a line is refused.
-#[derive(Clone, Copy, Debug, PartialEq, Eq)]
-pub enum LineRefusal {
-    /// It isn't of the form that a line has.
-    BadLine,
-    /// A part is no number, no place, or no value of its place.
-    BadNumber,
-    /// Its place has a width and those before had none, or the other way round.
-    MixedWidths,
-}
+use tso_text::Why;
 
 /// Which places the lines of a text had so far.
 #[derive(Clone, Copy, Debug, PartialEq, Eq)]
@@ -42,16 +32,16 @@ fn admits(before: Widths, width: u64) -> bool
 }
 
 /// The place that the first part is, and the parts after it.
-fn place_in(before: Widths, parts: Option<&[u8]>) -> Result<(Place, Option<&[u8]>), LineRefusal>
+fn place_in(before: Widths, parts: Option<&[u8]>) -> Result<(Place, Option<&[u8]>), Why>
     ensures { place_left result ≡ place_said before (tokens_after parts.entry) }
 {
     let Some(rest) = parts else {
-        return Err(LineRefusal::BadLine);
+        return Err(Why::BadLine);
     };
     let (part, after) = next_token(rest);
-    let place = place_of(part).ok_or(LineRefusal::BadNumber)?;
+    let place = place_of(part).ok_or(Why::BadNumber)?;
     if !admits(before, place.width) {
-        return Err(LineRefusal::MixedWidths);
+        return Err(Why::MixedWidths);
     }
     Ok((place, after))
 }
@@ -80,43 +70,40 @@ fn holds_value(width: u64, value: u64) -> bool
 }
 
 /// The value of a place of this width that the first part is, and the parts after it.
-fn value_in(width: u64, parts: Option<&[u8]>) -> Result<(u64, Option<&[u8]>), LineRefusal>
+fn value_in(width: u64, parts: Option<&[u8]>) -> Result<(u64, Option<&[u8]>), Why>
     ensures { value_left result ≡ value_said width (tokens_after parts.entry) }
 {
     let Some(rest) = parts else {
-        return Err(LineRefusal::BadLine);
+        return Err(Why::BadLine);
     };
     let (part, after) = next_token(rest);
-    let value = numeral_of(part).ok_or(LineRefusal::BadNumber)?;
+    let value = numeral_of(part).ok_or(Why::BadNumber)?;
     if !holds_value(width, value) {
-        return Err(LineRefusal::BadNumber);
+        return Err(Why::BadNumber);
     }
     Ok((value, after))
 }
 
 /// A place alone.
-pub(crate) fn place_alone(before: Widths, parts: Option<&[u8]>) -> Result<Place, LineRefusal>
+pub(crate) fn place_alone(before: Widths, parts: Option<&[u8]>) -> Result<Place, Why>
     ensures { place_numbers result ≡ place_alone before (tokens_after parts.entry) }
 {
     let (place, rest) = place_in(before, parts)?;
     match rest {
         None => Ok(place),
-        Some(_) => Err(LineRefusal::BadLine),
+        Some(_) => Err(Why::BadLine),
     }
 }
 
 /// A place and a value.
-pub(crate) fn place_and_value(
-    before: Widths,
-    parts: Option<&[u8]>,
-) -> Result<(Place, u64), LineRefusal>
+pub(crate) fn place_and_value(before: Widths, parts: Option<&[u8]>) -> Result<(Place, u64), Why>
     ensures { value_numbers result ≡ place_and_value before (tokens_after parts.entry) }
 {
     let (place, rest) = place_in(before, parts)?;
     let (value, rest) = value_in(place.width, rest)?;
     match rest {
         None => Ok((place, value)),
-        Some(_) => Err(LineRefusal::BadLine),
+        Some(_) => Err(Why::BadLine),
     }
 }
 
@@ -124,7 +111,7 @@ pub(crate) fn place_and_value(
 pub(crate) fn place_and_values(
     before: Widths,
     parts: Option<&[u8]>,
-) -> Result<(Place, u64, u64), LineRefusal>
+) -> Result<(Place, u64, u64), Why>
     ensures { values_numbers result ≡ place_and_values before (tokens_after parts.entry) }
 {
     let (place, rest) = place_in(before, parts)?;
@@ -132,16 +119,16 @@ pub(crate) fn place_and_values(
     let (second, rest) = value_in(place.width, rest)?;
     match rest {
         None => Ok((place, first, second)),
-        Some(_) => Err(LineRefusal::BadLine),
+        Some(_) => Err(Why::BadLine),
     }
 }
 
 /// No part is left.
-pub(crate) fn nothing(parts: Option<&[u8]>) -> Result<(), LineRefusal>
+pub(crate) fn nothing(parts: Option<&[u8]>) -> Result<(), Why>
     ensures { no_numbers result ≡ all_said [] (tokens_after parts.entry) }
 {
     match parts {
         None => Ok(()),
-        Some(_) => Err(LineRefusal::BadLine),
+        Some(_) => Err(Why::BadLine),
     }
 }

@@ -3,7 +3,7 @@
 //! `README.md` says what is proved.
 #![tactic(auto)]
 
-pub use arguments::{LineRefusal, Widths};
+pub use arguments::Widths;
 pub use lines::{RunText, line_read};
 pub use numerals::numeral_of;
 pub use places::place_of;

@@ -4,12 +4,13 @@ ghost use Rattle.line_text.specs.Lines.{tokens_after, tokens_of};
 ghost use Rattle.run_lines.specs.Lines.{HasProcessor, is_plain, keyword_said, line_left, line_read, parts_said, processor_read, tokens_read};
 ghost use Rattle.run_lines.specs.Numerals.{number_spelled};
 
-use crate::arguments::{LineRefusal, Widths, place_and_value};
+use crate::arguments::{Widths, place_and_value};
 use crate::numerals::numeral_of;
 use crate::steps::step_said;
 use crate::tags::without_tag;
 use line_text::next_token;
 use run_steps::{Place, RunStep};
+use tso_text::Why;
 
 /// The greatest number of a processor.
 const MAX_PROCESSOR: u64 = 4095;
@@ -35,12 +36,12 @@ pub enum RunText {
 /// part from the left that can't be read: as BadLine where the line isn't ASCII, where its first part is no number, where its second is no
 /// keyword, where a part is missing or is one too many; as BadNumber where a processor is above 4,095, or a part is no place, no number or
 /// no value of its place; as MixedWidths where its place has a width and those before had none, or the other way round.
-pub fn line_read(before: Widths, line: &[u8]) -> Result<RunText, LineRefusal>
+pub fn line_read(before: Widths, line: &[u8]) -> Result<RunText, Why>
     ensures said { line_left result ≡ line_read before line.now }
     ensures processor { IfOk result HasProcessor }
 {
     if !is_plain(line) {
-        return Err(LineRefusal::BadLine);
+        return Err(Why::BadLine);
     }
     if !line.is_empty() && line[0] == 35 {
         return Ok(RunText::Note);
@@ -57,7 +58,7 @@ fn is_plain(line: &[u8]) -> bool
 
 /// What a line without its tag says.
 #[tactic(auto, unfolding(crate::specs::Lines::parts_said, crate::specs::Lines::tokens_read))]
-fn parts_said(before: Widths, said: &[u8]) -> Result<RunText, LineRefusal>
+fn parts_said(before: Widths, said: &[u8]) -> Result<RunText, Why>
     ensures said { line_left result ≡ parts_said before said.now }
     ensures processor { IfOk result HasProcessor }
 {
@@ -77,13 +78,13 @@ fn parts_said(before: Widths, said: &[u8]) -> Result<RunText, LineRefusal>
 }
 
 /// The processor that a part is.
-fn processor_read(part: &[u8]) -> Result<u64, LineRefusal>
+fn processor_read(part: &[u8]) -> Result<u64, Why>
     ensures read { result ≡ processor_read (number_spelled part.now) }
     ensures few { IfOk result (λ processor. processor < 4096) }
 {
-    let processor = numeral_of(part).ok_or(LineRefusal::BadLine)?;
+    let processor = numeral_of(part).ok_or(Why::BadLine)?;
     if processor > MAX_PROCESSOR {
-        return Err(LineRefusal::BadNumber);
+        return Err(Why::BadNumber);
     }
     Ok(processor)
 }
@@ -93,13 +94,13 @@ fn keyword_said(
     before: Widths,
     processor: u64,
     parts: Option<&[u8]>,
-) -> Result<RunText, LineRefusal>
+) -> Result<RunText, Why>
     requires { processor < 4096 }
     ensures said { line_left result ≡ keyword_said before processor (tokens_after parts.entry) }
     ensures processor { IfOk result HasProcessor }
 {
     let Some(rest) = parts else {
-        return Err(LineRefusal::BadLine);
+        return Err(Why::BadLine);
     };
     let (word, parts) = next_token(rest);
     let step = step_said(before, word, parts)?;

@@ -4,25 +4,20 @@ ghost use Rattle.line_text.specs.Lines.{tokens_after};
 ghost use Rattle.run_lines.specs.Arguments.{place_and_value};
 ghost use Rattle.run_lines.specs.Lines.{drain_said, is_access, numbers_said, step_left, numbers_of_step, step_word, with_place, word_of_drain};
 
-use crate::arguments::{
-    LineRefusal, Widths, nothing, place_alone, place_and_value, place_and_values,
-};
+use crate::arguments::{Widths, nothing, place_alone, place_and_value, place_and_values};
 use line_text::next_token;
 use run_steps::{Place, RunStep};
+use tso_text::Why;
 
 /// The step that a keyword and the parts after it say.
 #[tactic(auto, unfolding(crate::specs::Lines::numbers_said))]
-pub(crate) fn step_said(
-    before: Widths,
-    word: &[u8],
-    parts: Option<&[u8]>,
-) -> Result<RunStep, LineRefusal>
+pub(crate) fn step_said(before: Widths, word: &[u8], parts: Option<&[u8]>) -> Result<RunStep, Why>
     ensures numbers { step_left result ≡ numbers_said before word.now (tokens_after parts.entry) }
     ensures word { IfOk result (λ step. step_word step ≡ word.now) }
 {
     if is_access(word) {
         let (place, value) = place_and_value(before, parts)?;
-        return access(word, place, value).ok_or(LineRefusal::BadLine);
+        return access(word, place, value).ok_or(Why::BadLine);
     }
     if word == b"dr".as_slice() {
         drain_said(before, parts)
@@ -39,7 +34,7 @@ pub(crate) fn step_said(
         nothing(parts)?;
         Ok(RunStep::Stbar)
     } else {
-        Err(LineRefusal::BadLine)
+        Err(Why::BadLine)
     }
 }
 
@@ -79,7 +74,7 @@ fn access(word: &[u8], place: Place, value: u64) -> Option<RunStep>
 }
 
 /// A drain, of any store, of one at a place, or of one at a place with a value.
-fn drain_said(before: Widths, parts: Option<&[u8]>) -> Result<RunStep, LineRefusal>
+fn drain_said(before: Widths, parts: Option<&[u8]>) -> Result<RunStep, Why>
     ensures numbers { step_left result ≡ drain_said before (tokens_after parts.entry) }
     ensures word { IfOk result (λ step. step_word step ≡ word_of_drain) }
 {
@@ -102,7 +97,7 @@ fn drain_said(before: Widths, parts: Option<&[u8]>) -> Result<RunStep, LineRefus
 }
 
 /// A drain of a store at a place, with its value.
-fn drain_of_value(before: Widths, parts: Option<&[u8]>) -> Result<RunStep, LineRefusal>
+fn drain_of_value(before: Widths, parts: Option<&[u8]>) -> Result<RunStep, Why>
     ensures numbers { step_left result ≡ place_and_value before (tokens_after parts.entry) }
     ensures word { IfOk result (λ step. step_word step ≡ word_of_drain) }
 {

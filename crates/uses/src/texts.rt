@@ -3,7 +3,7 @@
 use drawn_programs::{Shape, make_program};
 use log_text::{Log, read_log};
 use rand_core::Rng;
-use run_lines::{LineRefusal, RunText, Widths, line_read};
+use run_lines::{RunText, Widths, line_read};
 use std::alloc::Global;
 use std::io::{Read, Write};
 use text_streams::{Fault, read_all, write_text};
@@ -11,7 +11,7 @@ use trace_streams::TraceTextReader;
 use tso_cert::{Certificate, read_cert};
 use tso_evidence::{Evidence, read_evidence};
 use tso_ops::{OutOfMemory, Outcome, Program, Refused, Trace};
-use tso_text::{MAX_TEXT_BYTES, TextFault, read_trace};
+use tso_text::{MAX_TEXT_BYTES, TextFault, Why, read_trace};
 
 /// `tso_ops`: the trace of these lists of operations, one for each processor, or its refusal.
 pub fn trace_of_lists(alloc: Global, lists: Vec<Vec<Outcome>>) -> Result<Trace, Refused<Outcome>> {
@@ -58,7 +58,7 @@ pub fn log_of_a_text(alloc: Global, text: &[u8]) -> Result<Log, TextFault> {
 }
 
 /// `run_lines`: what the first line of a text says.
-pub fn first_line_of_a_run(line: &[u8]) -> Result<RunText, LineRefusal> {
+pub fn first_line_of_a_run(line: &[u8]) -> Result<RunText, Why> {
     let said = line_read(Widths::Unseen, line)?;
     Ok(said)
 }

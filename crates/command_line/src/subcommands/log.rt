@@ -21,11 +21,16 @@ order of its program:
   P un A        it did something else at address A, whose lines all are left out
 
 Lines of different processors may stand in any order. Addresses and values are
-numbers of 64 bits, and values may repeat. The first line may be `model pso`,
-for Partial Store Order; without it STBAR says nothing. Lines `init A V`, before
-all operations and in ascending order of A, say what memory has at first: 0 at
-all other addresses. A last line `end` says that the log is whole; with --ended
-a log without it is refused, as one that was cut off.
+numbers of 64 bits, decimal or hexadecimal as 0x1f, and values may repeat. The
+first line may be `model pso`, for Partial Store Order; without it STBAR says
+nothing. Lines `init A V`, before all operations, say what memory has at first,
+later ones over earlier ones: 0 at all other addresses. A last line `end` says
+that the log is whole; with --ended a log without it is refused, as one that was
+cut off. A line may end with ` #` and any text, and one that begins with `#`
+says nothing.
+
+A run that says when its stores reach memory is a log too: `P lr A R` is a load,
+`P wr A V` and `P sc A V` are stores, and lines `dr` and `last` say nothing.
 
 The log must have every store and swap of the run: what it leaves out may be
 what a load read. Then a violation that is shown is one of the run; that none

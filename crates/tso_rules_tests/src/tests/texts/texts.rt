@@ -49,7 +49,7 @@ fn long_texts(rt: HostRuntime) -> Result<(), Fail> {
 }
 
 /// A text of each kind, of which each allocation is refused in turn, and what it gives.
-static AGAIN: [Case; 11] = [
+static AGAIN: [Case; 12] = [
     (
         Kind::Trace,
         "tso trace 1\nproc\nst 1 1\nld 2 0\nproc\nst 2 2\nmb\nsw 1 0 3\nend\n",
@@ -88,6 +88,11 @@ static AGAIN: [Case; 11] = [
         Kind::Log,
         "model pso\ninit 3 18446744073709551615\ninit 18446744073709551615 0\n0 st 3 7\n2 ld 18446744073709551615 9\n0 mb\n2 stbar\n2 st 5 1\n0 sw 3 18446744073709551614 7\n2 st 0 0\n1 un 5\n",
         "3 Pso [(3, 18446744073709551615), (18446744073709551615, 0)]: 4 6 9 5 7 10",
+    ),
+    (
+        Kind::Log,
+        "# a run\nmodel pso # weaker\ninit 0xff 2\ninit 7 0x10\ninit 255 3 # later\n1 wr 7 4\n0 dr\n0 lr 7 16\n3 last 7 4\n1 sc 0xff 9 #\nend\n",
+        "2 Pso [(7, 16), (255, 3)]: 8 6 10",
     ),
 ];
 
