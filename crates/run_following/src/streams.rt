@@ -76,7 +76,8 @@ impl RunStream {
         let whole = mem::replace(&mut self.pending, Vec::new(alloc));
         let refused = self.follower.accept(alloc, &whole)?;
         if let Some(why) = refused {
-            return Ok(Some(Stop::Refused(fault_of(number as usize, why))));
+            let line = number as usize;
+            return Ok(Some(Stop::Refused(TextFault { line, why })));
         }
         if self.is_fast && self.follower.noted.total > 0 {
             return Ok(Some(Stop::Told));
