@@ -1,8 +1,8 @@
 -- Lemmas on how a run ends.
-use Rattle.std.proofs.Common.{◌≡◌, ◌≢◌, ◌⊎◌, ◌∙◌, ◌<◌, refl, sym, ap, subst, inl, inr, ℕ, suc, ◌+◌, ◌==◌, Bool, true, false, List, [], ◌∷◌, ◌++◌, get_or, length, take, Option, None, Some, IfSome, arith, append_assoc}
+use Rattle.std.proofs.Common.{◌≡◌, ◌∙◌, refl, sym, ap, subst, inl, inr, ℕ, ◌==◌, true, false, List, [], ◌∷◌, ◌++◌, take, Option, None, Some, append_assoc}
 use Rattle.std.specs.Io.KnownBytes.{Consumes, IsAtEnd}
 use Rattle.std.proofs.KnownBytes.{Consumes-nil, Consumes-trans, Consumes-whole}
-use Rattle.std.specs.List.{list_any, onto_first, slice_split}
+use Rattle.std.specs.List.{onto_first}
 use Rattle.std.proofs.lemmas.Bool.{or_parts}
 use Rattle.std.proofs.lemmas.List.{append-nil}
 use Rattle.std.proofs.lemmas.List.Splits.{slice_split-cons_no}
@@ -12,10 +12,10 @@ use Rattle.request_options.specs.declared.following.FollowOptions.{FollowOptions
 use Rattle.text_streams.specs.Readings.{ReadsAs}
 use Rattle.text_streams.proofs.ReadingFacts.{reads_whole}
 use Rattle.tso_text.specs.declared.faults.TextFault.{TextFault}
-use Rattle.run_following.specs.Accounts.{Account, Follows, IsAccepted, IsRefusedFor}
+use Rattle.run_following.specs.Accounts.{Account, Follows}
 use Rattle.run_following.specs.Internal.Endings.{EndsText, HasFollowed, refusal_of_stop}
-use Rattle.run_following.specs.Internal.Streams.{EndsAt, IsCutOff, IsStop, StandsAt, StopsAfter, has_line_end}
-use Rattle.run_following.specs.Runs.{IsPartRefused, IsRunRefusal}
+use Rattle.run_following.specs.Internal.Streams.{EndsAt, IsCutOff, StandsAt, StopsAfter, has_line_end}
+use Rattle.run_following.specs.Runs.{IsRunRefusal}
 use Rattle.run_following.specs.declared.streams.RunStream.{RunStream}
 use Rattle.run_following.specs.declared.streams.Stop.{Stop}
 use Rattle.run_following.specs.declared.streams.Stop.TheVariants.{Refused, Told}

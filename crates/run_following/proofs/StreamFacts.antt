@@ -1,6 +1,6 @@
 -- Lemmas on the lines of a run whose bytes come one after the other.
-use Rattle.std.proofs.Common.{◌≡◌, ◌≢◌, ◌∙◌, refl, sym, ap, subst, ℕ, zero, suc, ◌+◌, ◌==◌, Bool, true, false, cond, List, [], ◌∷◌, ◌++◌, drop, get_or, length, None, Some, arith, append_assoc, eqb, ⊎_elim}
-use Rattle.std.specs.List.{count_by, join_with_byte, list_any, onto_first, slice_split}
+use Rattle.std.proofs.Common.{◌≡◌, ◌≢◌, ◌∙◌, refl, sym, ap, subst, ℕ, ◌+◌, ◌==◌, true, false, List, [], ◌∷◌, ◌++◌, drop, get_or, length, None, Some, arith, append_assoc, ⊎_elim}
+use Rattle.std.specs.List.{count_by, join_with_byte, onto_first, slice_split}
 use Rattle.std.proofs.lemmas.Bool.{or_parts}
 use Rattle.std.proofs.lemmas.Bool.Decides.{eqb_tells}
 use Rattle.std.proofs.lemmas.List.{append-nil}
@@ -9,7 +9,7 @@ use Rattle.line_text.specs.Lines.{parts_of}
 use Rattle.line_text.proofs.CutFacts.{HasLine, first_line}
 use Rattle.line_text.proofs.SplitFacts.{split_part}
 use Rattle.run_following.specs.Accounts.{Account, Follows, IsAccepted, account_at_start}
-use Rattle.run_following.specs.Internal.Streams.{AreCut, EndsAt, IsStop, IsTaken, StandsAt, has_line_end}
+use Rattle.run_following.specs.Internal.Streams.{AreCut, EndsAt, IsTaken, StandsAt, has_line_end}
 use Rattle.run_following.specs.Runs.{IsOfLines, Leads}
 use Rattle.run_following.specs.declared.streams.RunStream.{RunStream}
 use Rattle.run_following.specs.declared.streams.Stop.{Stop}
