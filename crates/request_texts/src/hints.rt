@@ -63,7 +63,7 @@ impl Likeness {
 
     /// What is told where a subcommand refused such a text; nothing where it reads such texts, or it isn't known what it is.
     pub(crate) fn hint(self, subcommand: &str) -> Option<&'static str> {
-        let reads_logs = subcommand == "log";
+        let reads_logs = matches!(subcommand, "log" | "follow");
         let reads_programs = matches!(subcommand, "run" | "replay" | "campaign" | "outcomes");
         match self {
             Likeness::Empty => Some("the text is empty"),

@@ -10,7 +10,7 @@ use Rattle.line_text.proofs.CutFacts.{HasLine, first_line}
 use Rattle.line_text.proofs.SplitFacts.{split_part}
 use Rattle.run_following.specs.Accounts.{Account, Follows, IsAccepted, account_at_start}
 use Rattle.run_following.specs.Internal.Streams.{AreCut, EndsAt, IsTaken, StandsAt, has_line_end}
-use Rattle.run_following.specs.Runs.{IsOfLines, Leads}
+use Rattle.run_following.specs.Runs.{IsOfLines, LeadsTo}
 use Rattle.run_following.specs.declared.streams.RunStream.{RunStream}
 use Rattle.run_following.specs.declared.streams.Stop.{Stop}
 
@@ -69,7 +69,7 @@ cut_more done line lines cut none more =
 
 -- ---- accounts
 
-pub leads_more : (from mid to : Account) (lines : List (List ℕ)) (line : List ℕ) → Leads from lines mid → IsAccepted mid line to → Leads from (lines ++ line ∷ []) to
+pub leads_more : (from mid to : Account) (lines : List (List ℕ)) (line : List ℕ) → LeadsTo from lines mid → IsAccepted mid line to → LeadsTo from (lines ++ line ∷ []) to
 leads_more from mid to [] line leads accepted = (to, subst (λ a. IsAccepted a line to) (sym leads) accepted, refl)
 leads_more from mid to (first ∷ lines) line leads accepted = (leads.0, leads.1, leads_more leads.0 mid to lines line leads.2 accepted)
 
@@ -77,7 +77,7 @@ leads_more from mid to (first ∷ lines) line leads accepted = (leads.0, leads.1
 pub of_lines : (account next : Account) (line : List ℕ) → IsOfLines account → IsAccepted account line next → IsOfLines next
 of_lines account next line leads accepted =
     let texts : account.texts ++ line ∷ [] ≡ next.texts = ap (λ a. a.texts) (sym accepted.is) in
-    subst (λ ts. Leads account_at_start ts next) texts (leads_more account_at_start account next account.texts line leads accepted)
+    subst (λ ts. LeadsTo account_at_start ts next) texts (leads_more account_at_start account next account.texts line leads accepted)
 
 -- ---- what a stream has followed
 

@@ -20,7 +20,7 @@ use Rattle.run_following.specs.declared.counts.RunCounts.{RunCounts}
 use Rattle.run_following.specs.declared.followers.Follower.{Follower}
 use Rattle.run_following.specs.declared.stages.Stage.{Stage}
 use Rattle.run_following.specs.declared.stages.Stage.TheVariants.{Notes, Ended}
-use Rattle.run_following.specs.Counts.{counted}
+use Rattle.run_following.specs.Counts.{counted_with}
 use Rattle.run_following.specs.KeptLines.{kept_texts}
 use Rattle.run_following.specs.Noted.{AreNoted, numbered}
 use Rattle.run_following.specs.PlacesSaid.{widths_after}
@@ -57,25 +57,25 @@ account_at_start = record {
 }
 
 -- a step of the machine, on the next line
-abbrev pub with_step : Account → RunLine → Account
-with_step account line = record account {
+abbrev pub with_next_step : Account → RunLine → Account
+with_next_step account line = record account {
   state = state_after_line line account.state;
   steps = account.steps ++ line ∷ [];
-  counts = counted (not (has_acted account.steps line.processor)) line.step (line_comparison line account.state) account.counts;
+  counts = counted_with (not (has_acted account.steps line.processor)) line.step (line_comparison line account.state) account.counts;
   compared = account.compared || is_compared (line_comparison line account.state);
   refusals = account.refusals ++ map (numbered line.number) (line_refusals account.model line account.state);
 }
 
 -- a first value
-abbrev pub with_first : Account → Place → ℕ → Account
-with_first account place v = record account { state = presetting place v account.state }
+abbrev pub with_first_value : Account → Place → ℕ → Account
+with_first_value account place v = record account { state = presetting place v account.state }
 
 -- what the next line says
 abbrev pub with_said : Account → RunText → Account
 with_said account text.Note = account
 with_said account text.Pso = record account { model = Pso }
-with_said account (text.First place v) = with_first account place v
-with_said account (text.Step p step) = with_step account (record { number = suc (length account.texts); processor = p; step = step })
+with_said account (text.First place v) = with_first_value account place v
+with_said account (text.Step p step) = with_next_step account (record { number = suc (length account.texts); processor = p; step = step })
 with_said account text.End = account
 
 -- the next line, which says this
@@ -122,14 +122,14 @@ pub record IsAccepted (account : Account) (line : List ℕ) (next : Account) : T
   pub is : next ≡ with_line account line said
 
 -- what can't be read, or may not follow
-abbrev pub HasFault : Account → List ℕ → Why → Type 0
-HasFault account line why =
+abbrev pub HasLineFault : Account → List ℕ → Why → Type 0
+HasLineFault account line why =
     (line_read account.widths line ≡ Err why)
     ⊎ ((said : RunText) × (line_read account.widths line ≡ Ok (text_numbers said)) × (said_fault account said ≡ Some why))
 
 -- Why the next line is refused: nothing follows a line `end`, it can't be read, or it may not follow.
 abbrev pub IsRefusedFor : Account → List ℕ → Why → Type 0
-IsRefusedFor account line why = ((account.stage ≡ Ended) × (why ≡ BadLine)) ⊎ ((account.stage ≢ Ended) × HasFault account line why)
+IsRefusedFor account line why = ((account.stage ≡ Ended) × (why ≡ BadLine)) ⊎ ((account.stage ≢ Ended) × HasLineFault account line why)
 
 -- ---- what a follower holds
 

@@ -21,46 +21,46 @@ is_operation (Unknown place) = false
 is_operation (Last place v) = false
 
 -- the step is a load
-abbrev pub is_load : RunStep → Bool
-is_load (Load place v) = true
-is_load (Store place v) = false
-is_load (Drain at v) = false
-is_load (Write place v) = false
-is_load (Swap place r v) = false
-is_load (Reserve place v) = true
-is_load (StoreReserved place v) = false
-is_load Membar = false
-is_load Stbar = false
-is_load (Unknown place) = false
-is_load (Last place v) = false
+abbrev pub is_load_step : RunStep → Bool
+is_load_step (Load place v) = true
+is_load_step (Store place v) = false
+is_load_step (Drain at v) = false
+is_load_step (Write place v) = false
+is_load_step (Swap place r v) = false
+is_load_step (Reserve place v) = true
+is_load_step (StoreReserved place v) = false
+is_load_step Membar = false
+is_load_step Stbar = false
+is_load_step (Unknown place) = false
+is_load_step (Last place v) = false
 
 -- the step is a store
-abbrev pub is_store : RunStep → Bool
-is_store (Load place v) = false
-is_store (Store place v) = true
-is_store (Drain at v) = false
-is_store (Write place v) = true
-is_store (Swap place r v) = false
-is_store (Reserve place v) = false
-is_store (StoreReserved place v) = true
-is_store Membar = false
-is_store Stbar = false
-is_store (Unknown place) = false
-is_store (Last place v) = false
+abbrev pub is_store_step : RunStep → Bool
+is_store_step (Load place v) = false
+is_store_step (Store place v) = true
+is_store_step (Drain at v) = false
+is_store_step (Write place v) = true
+is_store_step (Swap place r v) = false
+is_store_step (Reserve place v) = false
+is_store_step (StoreReserved place v) = true
+is_store_step Membar = false
+is_store_step Stbar = false
+is_store_step (Unknown place) = false
+is_store_step (Last place v) = false
 
 -- the step is a swap
-abbrev pub is_swap : RunStep → Bool
-is_swap (Load place v) = false
-is_swap (Store place v) = false
-is_swap (Drain at v) = false
-is_swap (Write place v) = false
-is_swap (Swap place r v) = true
-is_swap (Reserve place v) = false
-is_swap (StoreReserved place v) = false
-is_swap Membar = false
-is_swap Stbar = false
-is_swap (Unknown place) = false
-is_swap (Last place v) = false
+abbrev pub is_swap_step : RunStep → Bool
+is_swap_step (Load place v) = false
+is_swap_step (Store place v) = false
+is_swap_step (Drain at v) = false
+is_swap_step (Write place v) = false
+is_swap_step (Swap place r v) = true
+is_swap_step (Reserve place v) = false
+is_swap_step (StoreReserved place v) = false
+is_swap_step Membar = false
+is_swap_step Stbar = false
+is_swap_step (Unknown place) = false
+is_swap_step (Last place v) = false
 
 -- what a line reads isn't known
 abbrev pub is_unknown : Comparison → Bool
@@ -73,12 +73,12 @@ abbrev pub added : ℕ → Bool → ℕ
 added count is = if is then count + 1 else count
 
 -- The counts with one more line, which may be the first of its processor.
-abbrev pub counted : Bool → RunStep → Comparison → RunCounts → RunCounts
-counted is_new step comparison counts = record {
+abbrev pub counted_with : Bool → RunStep → Comparison → RunCounts → RunCounts
+counted_with is_new step comparison counts = record {
   processors = added counts.processors is_new;
   operations = added counts.operations (is_operation step);
-  loads = added counts.loads (is_load step);
-  stores = added counts.stores (is_store step);
-  swaps = added counts.swaps (is_swap step);
+  loads = added counts.loads (is_load_step step);
+  stores = added counts.stores (is_store_step step);
+  swaps = added counts.swaps (is_swap_step step);
   unknown = added counts.unknown (is_unknown comparison);
 }

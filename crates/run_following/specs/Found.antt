@@ -5,7 +5,7 @@ use Rattle.run_steps.specs.Machine.{ProcessorState}
 use Rattle.run_steps.specs.Reads.{RefusalValue, refusal_of}
 use Rattle.run_following.specs.Accounts.{Account}
 use Rattle.run_following.specs.Facts.{RefusalTold, told, told_value}
-use Rattle.run_following.specs.KeptLines.{line_at}
+use Rattle.run_following.specs.KeptLines.{text_at}
 use Rattle.run_following.specs.declared.found.RunFound.{RunFound}
 use Rattle.run_following.specs.declared.noted.NumberedRefusal.{NumberedRefusal}
 use Rattle.trace_reports.specs.declared.answers.Answer.{Answer}
@@ -28,8 +28,8 @@ pub record IsFoundIn (most : ℕ) (account : Account) (found : RunFound) : Type 
   pub waiting : found.waiting ≡ waiting_in account.state.processors
   pub compared : found.is_compared ≡ account.compared
   pub refusals : found.refusals ≡ length account.refusals
-  pub told_first : map told_value found.told.items ≡ map (told_of (line_at account.texts)) (take most account.refusals)
+  pub told_first : map told_value found.told.items ≡ map (told_of (text_at account.texts)) (take most account.refusals)
 
 -- a violation where a line is no step, and nothing where no value was compared
-abbrev pub answer_of : RunFound → Answer
-answer_of found = if nat_lt 0 found.refusals then Violation else if found.is_compared then Clear else Undecided
+abbrev pub run_answer : RunFound → Answer
+run_answer found = if nat_lt 0 found.refusals then Violation else if found.is_compared then Clear else Undecided

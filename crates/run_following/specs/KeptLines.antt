@@ -7,8 +7,8 @@ abbrev pub kept_texts : KeptLines → List (List ℕ)
 kept_texts kept = map string_bytes kept.texts.items
 
 -- the line of this number among these, from 1; nothing, where there is none
-abbrev pub line_at : List (List ℕ) → ℕ → List ℕ
-line_at texts n = get_or texts (n - 1) []
+abbrev pub text_at : List (List ℕ) → ℕ → List ℕ
+text_at texts n = get_or texts (n - 1) []
 
-abbrev pub kept_line : KeptLines → ℕ → List ℕ
-kept_line kept n = line_at (kept_texts kept) n
+abbrev pub kept_text : KeptLines → ℕ → List ℕ
+kept_text kept n = text_at (kept_texts kept) n

@@ -24,12 +24,12 @@ place_of_step (Unknown place) = Some place
 place_of_step (Last place v) = Some place
 
 -- the place of a line, if it has one
-abbrev pub place_said : RunText → Option Place
-place_said text.Note = None
-place_said text.Pso = None
-place_said (text.First place v) = Some place
-place_said (text.Step p step) = place_of_step step
-place_said text.End = None
+abbrev pub place_of_text : RunText → Option Place
+place_of_text text.Note = None
+place_of_text text.Pso = None
+place_of_text (text.First place v) = Some place
+place_of_text (text.Step p step) = place_of_step step
+place_of_text text.End = None
 
 -- a text with this place has locations or bytes
 abbrev pub widths_of : Place → Widths
@@ -37,4 +37,4 @@ widths_of place = if place.width == 0 then Locations else Bytes
 
 -- which places the lines of a text had, after one more line
 abbrev pub widths_after : Widths → RunText → Widths
-widths_after before said = option_map_or widths_of (place_said said) before
+widths_after before said = option_map_or widths_of (place_of_text said) before

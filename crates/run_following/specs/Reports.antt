@@ -7,7 +7,7 @@ use Rattle.trace_reports.specs.declared.answers.Answer.{Answer}
 use Rattle.trace_reports.specs.declared.answers.Answer.TheVariants.{Refused}
 use Rattle.tso_text.specs.declared.faults.Why.{Why}
 use Rattle.run_following.specs.Accounts.{Account}
-use Rattle.run_following.specs.Found.{IsFoundIn, answer_of}
+use Rattle.run_following.specs.Found.{IsFoundIn, run_answer}
 use Rattle.run_following.specs.Runs.{IsFollowed, IsRunRefusal}
 use Rattle.run_following.specs.declared.found.RunFound.{RunFound}
 
@@ -20,7 +20,7 @@ pub record IsReportOfRun (renders : RendersRun) (most : ℕ) (account : Account)
   pub found : RunFound
   pub is : IsFoundIn most account found
   pub says : text ≡ renders found
-  pub gives : answer ≡ answer_of found
+  pub gives : answer ≡ run_answer found
 
 -- The text is rendered of the refusal of these bytes: they spell no run, or lack the line `end` that is needed.
 pub record IsRefusalOfRun (refused : RendersRefusal) (options : FollowOptions) (bytes text : List ℕ) (answer : Answer) : Type 0 where

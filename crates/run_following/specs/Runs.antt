@@ -7,13 +7,13 @@ use Rattle.run_following.specs.Accounts.{Account, IsAccepted, IsRefusedFor, acco
 use Rattle.run_following.specs.declared.stages.Stage.TheVariants.{Ended}
 
 -- The lines may follow one after the other, and lead from one account to another.
-abbrev pub Leads : Account → List (List ℕ) → Account → Type 0
-Leads from [] to = from ≡ to
-Leads from (line ∷ lines) to = (next : Account) × IsAccepted from line next × Leads next lines to
+abbrev pub LeadsTo : Account → List (List ℕ) → Account → Type 0
+LeadsTo from [] to = from ≡ to
+LeadsTo from (line ∷ lines) to = (next : Account) × IsAccepted from line next × LeadsTo next lines to
 
 -- The account is that of its lines.
 abbrev pub IsOfLines : Account → Type 0
-IsOfLines account = Leads account_at_start account.texts account
+IsOfLines account = LeadsTo account_at_start account.texts account
 
 -- The text spells a run: it consists of lines, each with its line end, which may follow one after the other; the last of them is `end`, where that is needed.
 pub record SpellsRun (needs_end : Bool) (text : List ℕ) (account : Account) : Type 0 where
@@ -38,9 +38,9 @@ IsFollowed needs_end is_fast text account =
     (SpellsRun needs_end text account × (is_fast ≡ true → account.refusals ≡ [])) ⊎ ((is_fast ≡ true) × BeginsRefused text account)
 
 -- A part of a text is refused after these lines: it may not follow, or it is the last part and no line end follows it, or none of the lines is an `end` that the text needs.
-abbrev pub IsPartRefused : Bool → Account → List ℕ → List (List ℕ) → Why → Type 0
-IsPartRefused needs_end before part [] why = ((part ≢ []) ⊎ ((needs_end ≡ true) × (before.stage ≢ Ended))) × (why ≡ BadLine)
-IsPartRefused needs_end before part (next ∷ after) why = IsRefusedFor before part why
+abbrev pub IsRunPartRefused : Bool → Account → List ℕ → List (List ℕ) → Why → Type 0
+IsRunPartRefused needs_end before part [] why = ((part ≢ []) ⊎ ((needs_end ≡ true) × (before.stage ≢ Ended))) × (why ≡ BadLine)
+IsRunPartRefused needs_end before part (next ∷ after) why = IsRefusedFor before part why
 
 -- The refusal of a text: its first line with a fault, counted from 1, and that fault. Where an `end` is needed and missing, the line after all others has it.
 pub record IsRunRefusal (needs_end is_fast : Bool) (text : List ℕ) (line : ℕ) (why : Why) : Type 0 where
@@ -51,4 +51,4 @@ pub record IsRunRefusal (needs_end is_fast : Bool) (text : List ℕ) (line : ℕ
   pub leads : IsOfLines before
   pub clean : is_fast ≡ true → before.refusals ≡ []
   pub is : line ≡ suc (length before.texts)
-  pub fault : IsPartRefused needs_end before part after why
+  pub fault : IsRunPartRefused needs_end before part after why

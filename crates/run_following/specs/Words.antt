@@ -29,16 +29,16 @@ kind_word kind.NoReservation = codes "NoReservation"
 abbrev pub line_words : NamedLine → List ℕ
 line_words line = codes "line " ++ decimal line.number ++ codes " " ++ string_bytes line.text ++ codes "\n"
 
-abbrev pub store_words : NamedLine → Standing → List ℕ
-store_words line standing.Named = line_words line
-store_words line standing.Waiting = line_words line ++ codes "waiting\n"
-store_words line (standing.Reached n) = line_words line ++ codes "reached " ++ decimal n ++ codes "\n"
-store_words line standing.Before = codes "after\n" ++ line_words line
+abbrev pub standing_words : NamedLine → Standing → List ℕ
+standing_words line standing.Named = line_words line
+standing_words line standing.Waiting = line_words line ++ codes "waiting\n"
+standing_words line (standing.Reached n) = line_words line ++ codes "reached " ++ decimal n ++ codes "\n"
+standing_words line standing.Before = codes "after\n" ++ line_words line
 
 abbrev pub fact_words : Fact → List ℕ
 fact_words (Has v) = codes "has " ++ decimal v ++ codes "\n"
 fact_words First = codes "first\n"
-fact_words (Store line at) = store_words line at
+fact_words (Store line at) = standing_words line at
 
 -- the line that is refused, and the facts that show it
 abbrev pub told_words : ToldRefusal → List ℕ
@@ -74,14 +74,14 @@ counts_words counts waiting = codes "TSO RUN 1\n" ++ operations_words counts ++ 
 abbrev pub holds_words : Bool → List ℕ
 holds_words compared = if compared then codes "RUN HOLDS\n" else codes "RUN HOLDS\nNOTHING COMPARED\n"
 
-abbrev pub verdict_words : RunFound → List ℕ
-verdict_words found =
+abbrev pub run_verdict_words : RunFound → List ℕ
+run_verdict_words found =
     if found.refusals == 0 then holds_words found.is_compared
     else codes "RUN REFUSED\n" ++ refusals_words 1 found.told.items ++ codes "refusals " ++ decimal found.refusals ++ codes "\n"
 
 -- the report on a run
 abbrev pub run_words : RunFound → List ℕ
-run_words found = counts_words found.counts found.waiting ++ verdict_words found
+run_words found = counts_words found.counts found.waiting ++ run_verdict_words found
 
 -- a text that is refused
 abbrev pub refused_words : ℕ → Why → List ℕ

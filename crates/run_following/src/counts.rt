@@ -1,7 +1,7 @@
 //! How many lines a run has of each kind.
 ghost use Rattle.std.specs.Prelude.{◌≡◌, IfOk, IfErr};
 ghost use Rattle.text_streams.specs.declared.faults.Fault.TheVariants.{Read};
-ghost use Rattle.run_following.specs.Counts.{added, counted, is_load, is_operation, is_store, is_swap};
+ghost use Rattle.run_following.specs.Counts.{added, counted_with, is_load_step, is_operation, is_store_step, is_swap_step};
 
 use run_steps::{Comparison, RunStep};
 use text_streams::Fault;
@@ -45,7 +45,7 @@ impl RunCounts {
         step: &RunStep,
         comparison: Comparison,
     ) -> Result<RunCounts, Fault>
-        ensures counts { IfOk result (λ counts. counts ≡ counted is_new step.now comparison self) }
+        ensures counts { IfOk result (λ counts. counts ≡ counted_with is_new step.now comparison self) }
         ensures fault { IfErr result (λ fault. fault ≡ Read) }
     {
         Ok(RunCounts {
@@ -83,14 +83,14 @@ fn is_operation(step: &RunStep) -> bool
 
 /// Whether a step is a load.
 fn is_load(step: &RunStep) -> bool
-    ensures { result ≡ is_load step.now }
+    ensures { result ≡ is_load_step step.now }
 {
     matches!(step, RunStep::Load { .. } | RunStep::Reserve { .. })
 }
 
 /// Whether a step is a store.
 fn is_store(step: &RunStep) -> bool
-    ensures { result ≡ is_store step.now }
+    ensures { result ≡ is_store_step step.now }
 {
     matches!(
         step,
@@ -100,7 +100,7 @@ fn is_store(step: &RunStep) -> bool
 
 /// Whether a step is a swap.
 fn is_swap(step: &RunStep) -> bool
-    ensures { result ≡ is_swap step.now }
+    ensures { result ≡ is_swap_step step.now }
 {
     matches!(step, RunStep::Swap { .. })
 }

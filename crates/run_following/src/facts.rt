@@ -2,7 +2,7 @@
 ghost use Rattle.std.specs.Prelude.{◌≡◌, ◌++◌, ◌∷◌, [], IfOk, OnOk, map, string_bytes};
 ghost use Rattle.run_steps.specs.Reads.{refusal_of};
 ghost use Rattle.run_following.specs.Facts.{fact_value, kind_of, named_value, origin_fact, refusal_facts, store_fact, told, told_value};
-ghost use Rattle.run_following.specs.KeptLines.{kept_line};
+ghost use Rattle.run_following.specs.KeptLines.{kept_text};
 ghost use Rattle.run_following.specs.declared.facts.Fact.TheVariants.{Has};
 
 use crate::kept_lines::KeptLines;
@@ -83,7 +83,7 @@ pub(crate) fn tell(
     number: u64,
     refusal: &RunRefusal,
 ) -> Result<ToldRefusal, OutOfMemory>
-    ensures { IfOk result (λ refused. told_value refused ≡ told (kept_line kept.now) number (refusal_of refusal.now)) }
+    ensures { IfOk result (λ refused. told_value refused ≡ told (kept_text kept.now) number (refusal_of refusal.now)) }
 {
     Ok(ToldRefusal {
         line: named(alloc, kept, number)?,
@@ -94,7 +94,7 @@ pub(crate) fn tell(
 
 /// The line of this number. OutOfMemory where an allocation was refused.
 fn named(alloc: Global, kept: &KeptLines, number: u64) -> Result<NamedLine, OutOfMemory>
-    ensures { IfOk result (λ line. named_value line ≡ (number, kept_line kept.now number)) }
+    ensures { IfOk result (λ line. named_value line ≡ (number, kept_text kept.now number)) }
 {
     Ok(NamedLine {
         number,
@@ -118,7 +118,7 @@ fn kind_of(refusal: &RunRefusal) -> RefusalKind
 
 /// The facts that show a refusal. OutOfMemory where an allocation was refused.
 fn facts_of(alloc: Global, kept: &KeptLines, refusal: &RunRefusal) -> Result<Vec<Fact>, OutOfMemory>
-    ensures { IfOk result (λ facts. map fact_value facts.items ≡ refusal_facts (kept_line kept.now) (refusal_of refusal.now)) }
+    ensures { IfOk result (λ facts. map fact_value facts.items ≡ refusal_facts (kept_text kept.now) (refusal_of refusal.now)) }
 {
     let mut facts = Vec::new(alloc);
     match refusal {
@@ -149,7 +149,7 @@ fn push_store(
     standing: Standing,
     facts: &mut Vec<Fact>,
 ) -> Result<(), OutOfMemory>
-    ensures { OnOk result (map fact_value facts.new.items ≡ map fact_value facts.old.items ++ store_fact (kept_line kept.now) store standing ∷ []) }
+    ensures { OnOk result (map fact_value facts.new.items ≡ map fact_value facts.old.items ++ store_fact (kept_text kept.now) store standing ∷ []) }
 {
     let line = named(alloc, kept, store)?;
     facts.push(Fact::Store { line, standing })?;
@@ -163,7 +163,7 @@ fn push_origins(
     origins: &[Origin],
     facts: &mut Vec<Fact>,
 ) -> Result<(), OutOfMemory>
-    ensures { OnOk result (map fact_value facts.new.items ≡ map fact_value facts.old.items ++ map (origin_fact (kept_line kept.now)) origins.now) }
+    ensures { OnOk result (map fact_value facts.new.items ≡ map fact_value facts.old.items ++ map (origin_fact (kept_text kept.now)) origins.now) }
 {
     for origin in origins {
         push_origin(alloc, kept, *origin, facts)?;
@@ -178,7 +178,7 @@ fn push_origin(
     origin: Origin,
     facts: &mut Vec<Fact>,
 ) -> Result<(), OutOfMemory>
-    ensures { OnOk result (map fact_value facts.new.items ≡ map fact_value facts.old.items ++ origin_fact (kept_line kept.now) origin ∷ []) }
+    ensures { OnOk result (map fact_value facts.new.items ≡ map fact_value facts.old.items ++ origin_fact (kept_text kept.now) origin ∷ []) }
 {
     match origin {
         Origin::First => {

@@ -2,7 +2,7 @@
 ghost use Rattle.std.specs.Prelude.{◌≡◌, ◌<◌, ◌+◌, ◌++◌, ◌∷◌, [], IfErr, IfOk, OnOk, Some, true, length};
 ghost use Rattle.run_lines.specs.Lines.{HasProcessor, is_plain};
 ghost use Rattle.run_steps.specs.Machine.{state_of_machine};
-ghost use Rattle.run_following.specs.Accounts.{Account, Follows, account_at_start, is_full, is_waiting_store, with_line, with_said, with_step};
+ghost use Rattle.run_following.specs.Accounts.{Account, Follows, account_at_start, is_full, is_waiting_store, with_line, with_said, with_next_step};
 ghost use Rattle.run_following.specs.Internal.Answers.{IsAnswered, IsAnsweredSaid};
 ghost use Rattle.run_following.specs.Internal.Faults.{IsRunFault};
 ghost use Rattle.run_following.specs.KeptLines.{kept_texts};
@@ -161,7 +161,7 @@ impl Follower {
     fn follow_step(&mut self, alloc: Global, line: RunLine) -> Result<(), Fault>
         requires processor { line.processor < 4096 }
         ensures fault { IfErr result IsRunFault }
-        ensures follows { OnOk result ((account : Account) → Follows self.old account → Follows self.new (with_step account line)) }
+        ensures follows { OnOk result ((account : Account) → Follows self.old account → Follows self.new (with_next_step account line)) }
         ensures most { self.new.noted.most ≡ self.old.noted.most }
     {
         let mut refusals = Vec::new(alloc);

@@ -2,8 +2,8 @@
 ghost use Rattle.std.specs.Prelude.{◌≡◌, IfOk, map};
 ghost use Rattle.run_following.specs.Accounts.{Account, Follows};
 ghost use Rattle.run_following.specs.Facts.{told_value};
-ghost use Rattle.run_following.specs.Found.{IsFoundIn, answer_of, told_noted};
-ghost use Rattle.run_following.specs.KeptLines.{kept_line};
+ghost use Rattle.run_following.specs.Found.{IsFoundIn, run_answer, told_noted};
+ghost use Rattle.run_following.specs.KeptLines.{kept_text};
 
 use crate::counts::RunCounts;
 use crate::facts::{ToldRefusal, tell};
@@ -32,7 +32,7 @@ pub struct RunFound {
 impl RunFound {
     /// What it answers: a violation where a line is no step, and nothing where no value was compared.
     pub(crate) fn answer(&self) -> Answer
-        ensures { result ≡ answer_of self.now }
+        ensures { result ≡ run_answer self.now }
     {
         if self.refusals > 0 {
             Answer::Violation
@@ -65,7 +65,7 @@ fn tell_all(
     kept: &KeptLines,
     refusals: &[NumberedRefusal],
 ) -> Result<Vec<ToldRefusal>, OutOfMemory>
-    ensures { IfOk result (λ all. map told_value all.items ≡ map (told_noted (kept_line kept.now)) refusals.now) }
+    ensures { IfOk result (λ all. map told_value all.items ≡ map (told_noted (kept_text kept.now)) refusals.now) }
 {
     let mut all = Vec::new(alloc);
     for noted in refusals {

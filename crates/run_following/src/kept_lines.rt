@@ -1,6 +1,6 @@
 //! The lines of a text that refusals may name.
 ghost use Rattle.std.specs.Prelude.{◌≡◌, ◌++◌, ◌∷◌, [], OnOk, map, string_bytes};
-ghost use Rattle.run_following.specs.KeptLines.{kept_line, kept_texts};
+ghost use Rattle.run_following.specs.KeptLines.{kept_text, kept_texts};
 
 use std::alloc::Global;
 use tso_ops::OutOfMemory;
@@ -31,7 +31,7 @@ impl KeptLines {
 
     /// What the line of this number says, from 1; nothing, where there is none.
     pub(crate) fn text_of(&self, number: u64) -> &str
-        ensures { result.now ≡ kept_line self.now number }
+        ensures { result.now ≡ kept_text self.now number }
     {
         let place = number.saturating_sub(1) as usize;
         if place < self.texts.len() {

@@ -2,7 +2,7 @@
 ghost use Rattle.std.specs.Prelude.{◌<◌, ◌||◌, ◌++◌, ◌∷◌, [], List, Bool, IfErr, OnOk, false, not};
 ghost use Rattle.run_steps.specs.declared.steps.RunLine.{RunLine};
 ghost use Rattle.run_following.specs.declared.counts.RunCounts.{RunCounts};
-ghost use Rattle.run_following.specs.Counts.{counted};
+ghost use Rattle.run_following.specs.Counts.{counted_with};
 ghost use Rattle.run_following.specs.Internal.Faults.{IsRunFault};
 ghost use Rattle.run_following.specs.Tallies.{Tallies, has_acted, is_compared};
 
@@ -40,7 +40,7 @@ impl Tally {
         requires { line.processor < 4096 }
         ensures fault { IfErr result IsRunFault }
         ensures counted { OnOk result ((steps : List RunLine) (counts : RunCounts) (compared : Bool) → Tallies self.old steps counts compared →
-            Tallies self.new (steps ++ line ∷ []) (counted (not (has_acted steps line.processor)) line.step comparison counts)
+            Tallies self.new (steps ++ line ∷ []) (counted_with (not (has_acted steps line.processor)) line.step comparison counts)
             (compared || is_compared comparison)) }
     {
         let is_new = !self.acting[line.processor];

@@ -1,6 +1,6 @@
 //! Which kind of places the lines of a text have.
 ghost use Rattle.std.specs.Prelude.{◌≡◌};
-ghost use Rattle.run_following.specs.PlacesSaid.{place_of_step, place_said, widths_after, widths_of};
+ghost use Rattle.run_following.specs.PlacesSaid.{place_of_step, place_of_text, widths_after, widths_of};
 
 use run_lines::{RunText, Widths};
 use run_steps::{Place, RunStep};
@@ -9,7 +9,7 @@ use run_steps::{Place, RunStep};
 pub(crate) fn widths_after(before: Widths, said: &RunText) -> Widths
     ensures { result ≡ widths_after before said.now }
 {
-    match place_said(said) {
+    match place_of_text(said) {
         Some(place) => widths_of(place),
         None => before,
     }
@@ -27,8 +27,8 @@ fn widths_of(place: Place) -> Widths
 }
 
 /// The place of a line, if it has one.
-fn place_said(said: &RunText) -> Option<Place>
-    ensures { result ≡ place_said said.now }
+fn place_of_text(said: &RunText) -> Option<Place>
+    ensures { result ≡ place_of_text said.now }
 {
     match said {
         RunText::First { place, .. } => Some(*place),

@@ -1,6 +1,6 @@
 //! The report on a run, in words.
 ghost use Rattle.std.specs.Prelude.{◌≡◌, ◌++◌, IfOk, OnOk, string_bytes};
-ghost use Rattle.run_following.specs.Words.{counts_words, fact_words, holds_words, kind_word, line_words, number_words, operations_words, others_words, refusals_words, refused_words, run_words, store_words, told_words, verdict_words};
+ghost use Rattle.run_following.specs.Words.{counts_words, fact_words, holds_words, kind_word, line_words, number_words, operations_words, others_words, refusals_words, refused_words, run_words, standing_words, told_words, run_verdict_words};
 
 use crate::counts::RunCounts;
 use crate::facts::{Fact, NamedLine, RefusalKind, Standing, ToldRefusal};
@@ -69,7 +69,7 @@ fn push_number(text: &mut String, word: &str, number: u64) -> Result<(), AllocEr
 
 /// Appends the verdict, and the refusals.
 fn push_verdict(text: &mut String, found: &RunFound) -> Result<(), AllocError>
-    ensures { OnOk result (string_bytes text.new ≡ string_bytes text.old ++ verdict_words found.now) }
+    ensures { OnOk result (string_bytes text.new ≡ string_bytes text.old ++ run_verdict_words found.now) }
 {
     let refusals = found.refusals;
     if refusals == 0 {
@@ -156,7 +156,7 @@ fn push_fact(text: &mut String, fact: &Fact) -> Result<(), AllocError>
 
 /// Appends a store, and what is told of it.
 fn push_store(text: &mut String, line: &NamedLine, standing: Standing) -> Result<(), AllocError>
-    ensures { OnOk result (string_bytes text.new ≡ string_bytes text.old ++ store_words line.now standing) }
+    ensures { OnOk result (string_bytes text.new ≡ string_bytes text.old ++ standing_words line.now standing) }
 {
     match standing {
         Standing::Named => push_line(text, line),

@@ -4,8 +4,10 @@ use log_reports::{AsExplainedLog, LogReporting, report_log};
 use outcome_reports::{count_seen, list_outcomes};
 use progress_meters::NoMeter;
 use request_options::{
-    BatchFormat, BatchMethod, BatchPrinting, LogForm, LogOptions, OutcomeForm, OutcomeOptions,
+    BatchFormat, BatchMethod, BatchPrinting, FollowOptions, LogForm, LogOptions, OutcomeForm,
+    OutcomeOptions,
 };
+use run_following::{AsRunWords, follow_run};
 use std::alloc::{AllocGlobal, Global};
 use std::io::{Read, Write};
 use std::sync::Wait;
@@ -88,6 +90,21 @@ pub fn report_a_log<H: Threads + Wait + AllocGlobal, R: Read, W: Write, E: Write
     let reporting = LogReporting { options, rendering };
     let verdict = report_log(rt, &reporting, &NoMeter, reader, writer, errors)?;
     Ok(verdict)
+}
+
+/// `run_following`: whether the lines of a reader's run are steps of the machine, up to the first that is none.
+pub fn follow_a_run<R: Read, W: Write>(
+    alloc: Global,
+    reader: &mut R,
+    writer: &mut W,
+) -> Result<Answer, Fault> {
+    let options = FollowOptions {
+        most: 10,
+        needs_end: false,
+        is_fast: true,
+    };
+    let answer = follow_run(alloc, options, &AsRunWords, reader, writer)?;
+    Ok(answer)
 }
 
 /// `trace_reduction`: the few operations of a reader's violation that show it.

@@ -5,8 +5,8 @@
 
 use super::logs::REPORT as LOGGED;
 use super::{Input, MESSAGE_PASSING, MemoryFiles, Output};
-use command_line::{LogRequest, Request};
-use request_options::{LogForm, LogOptions};
+use command_line::{FollowRequest, LogRequest, Request};
+use request_options::{FollowOptions, LogForm, LogOptions};
 use request_serving::serve;
 use std::alloc::{AllocError, Global};
 use std::sync::Wait;
@@ -120,5 +120,52 @@ fn refused_allocations_of_a_log(rt: HostRuntime) -> Result<(), Fail> {
     }
     assert!(rt; status == 3);
     assert!(rt; output.taken.as_slice() == LOGGED.as_bytes());
+    Ok(())
+}
+
+/// A run in which a load misses a store.
+const RUN: &str = "1 st 4096 7 # cycle 40\n1 dr\n0 ld 4096 5\n";
+
+/// The report on it, worked out by hand.
+const FOLLOWED: &str =
+    "TSO RUN 1\nprocessors 2 operations 2 loads 1 stores 1 swaps 0 unknown 0 waiting 0\nRUN REFUSED\nrefusal 1 Value\nline 3 0 ld 4096 5\nhas 7\nline 1 1 st 4096 7 # cycle 40\nreached 2\nrefusals 1\n";
+
+/// Follows the run on standard input, and answers the status.
+fn serve_run<H: Threads + Wait + Sync + AllocGlobal>(
+    rt: &H,
+    output: &mut Output,
+    errors: &mut Output,
+) -> u8 {
+    let request = Request::Follow(FollowRequest {
+        file: None,
+        options: FollowOptions {
+            most: 10,
+            needs_end: false,
+            is_fast: false,
+        },
+    });
+    let mut files = MemoryFiles {
+        opened: String::new(rt.alloc()),
+    };
+    let mut reader = Input {
+        rest: RUN.as_bytes(),
+        fails: false,
+    };
+    serve(rt, &request, &mut files, &mut reader, output, errors)
+}
+
+/// The request that meets a refused allocation names the fault; the next one writes the report.
+#[test]
+fn refused_allocations_of_a_run(rt: HostRuntime) -> Result<(), Fail> {
+    let mut output = output_of(rt.alloc())?;
+    let mut errors = output_of(rt.alloc())?;
+    let mut status = serve_run(&rt, &mut output, &mut errors);
+    if status == 4 {
+        assert!(rt; output.taken.is_empty());
+        assert!(rt; errors.taken.as_slice() == b"FAULT OutOfMemory\n".as_slice());
+        status = serve_run(&rt, &mut output, &mut errors);
+    }
+    assert!(rt; status == 3);
+    assert!(rt; output.taken.as_slice() == FOLLOWED.as_bytes());
     Ok(())
 }
