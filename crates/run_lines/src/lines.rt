@@ -90,11 +90,7 @@ fn processor_read(part: &[u8]) -> Result<u64, Why>
 }
 
 /// What the parts after a processor say of it.
-fn keyword_said(
-    before: Widths,
-    processor: u64,
-    parts: Option<&[u8]>,
-) -> Result<RunText, Why>
+fn keyword_said(before: Widths, processor: u64, parts: Option<&[u8]>) -> Result<RunText, Why>
     requires { processor < 4096 }
     ensures said { line_left result ≡ keyword_said before processor (tokens_after parts.entry) }
     ensures processor { IfOk result HasProcessor }
