@@ -8,7 +8,7 @@ _tsobench() {
     esac
     for ((i = 1; i < COMP_CWORD; i++)); do
         case ${COMP_WORDS[i]} in
-            judge | decide | explain | draw | reduce | batch | log | check | verify | outcomes | replay | run | make | campaign | help)
+            judge | decide | explain | draw | reduce | batch | log | follow | check | verify | outcomes | replay | run | make | campaign | help)
                 command=${COMP_WORDS[i]}
                 break
                 ;;
@@ -35,6 +35,7 @@ _tsobench() {
         log/--most) ;;
         log/--effort) ;;
         log/--max-unknown) ;;
+        follow/--most) ;;
         check/--nth) ;;
         verify/--nth) ;;
         outcomes/--limit) ;;
@@ -66,7 +67,7 @@ _tsobench() {
         campaign/--procs) ;;
         campaign/--ops) ;;
         campaign/--addrs) ;;
-        /*) words='judge decide explain draw reduce batch log check verify outcomes replay run make campaign help -h --help -V --version' ;;
+        /*) words='judge decide explain draw reduce batch log follow check verify outcomes replay run make campaign help -h --help -V --version' ;;
         judge/*) words='--workers --nth --verbose -h --help' files=yes ;;
         decide/*) words='--effort --workers --nth --verbose -h --help' files=yes ;;
         explain/*) words='--decide --effort --workers --nth --verbose -h --help' files=yes ;;
@@ -74,6 +75,7 @@ _tsobench() {
         reduce/*) words='--nth --verbose -h --help' files=yes ;;
         batch/*) words='--workers --format --quiet --violations --decide --effort --require --progress --verbose -h --help' files=yes ;;
         log/*) words='--most --effort --max-unknown --ended --trace --explain --progress --verbose -h --help' files=yes ;;
+        follow/*) words='--most --ended --fail-fast --verbose -h --help' files=yes ;;
         check/*) words='--nth --verbose -h --help' files=yes ;;
         verify/*) words='--nth --verbose -h --help' files=yes ;;
         outcomes/*) words='--states --limit --seen --verbose -h --help' files=yes ;;
@@ -81,7 +83,7 @@ _tsobench() {
         run/*) words='--unit --capacity --trigger --workers --trace --explain --with-trace --verbose --seed --drain-turns --times -h --help' files=yes ;;
         make/*) words='--schedule --model --seed --procs --ops --addrs -h --help' ;;
         campaign/*) words='--unit --capacity --trigger --workers --replay --drain-turns --trace --progress --model --first --count --procs --ops --addrs -h --help' ;;
-        help/*) words='judge decide explain draw reduce batch log check verify outcomes replay run make campaign' ;;
+        help/*) words='judge decide explain draw reduce batch log follow check verify outcomes replay run make campaign' ;;
     esac
     if [[ -n $files && $word != -* ]]; then
         words=''
