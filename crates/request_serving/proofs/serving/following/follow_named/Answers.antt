@@ -11,3 +11,9 @@ pub returns-in_ok-file-in-Some-clause-fault : goal.returns-in_ok-file-in-Some-cl
 returns-in_ok-file-in-Some-clause-fault g c =
     let followed = c.follow_run-in-Some in
     rw c.in-Some.is (faults_as _ _ (followed_of_known c.args.request.now.options _ _ c.in_ok-file-in-Some.ensures.known) _ _ followed.result followed.ensures.left)
+
+pub returns-in-None-clause-whole : goal.returns-in-None-clause-whole
+returns-in-None-clause-whole g c = rw c.in-None.is c.follow_run.ensures.report
+
+pub returns-in-None-clause-fault : goal.returns-in-None-clause-fault
+returns-in-None-clause-fault g c = rw c.in-None.is c.follow_run.ensures.left
