@@ -13,7 +13,7 @@ use Rattle.command_line.specs.declared.options.OptionNames.{OptionNames}
 use Rattle.command_line.specs.declared.options.Presentation.TheVariants.{Report}
 use Rattle.command_line.specs.declared.requests.Notes.{Notes}
 use Rattle.command_line.specs.declared.parameters.NameList.{NameList}
-use Rattle.command_line.specs.declared.parameters.NameList.TheVariants.{Units, Models, Formats, Edges}
+use Rattle.command_line.specs.declared.parameters.NameList.TheVariants.{Units, Models, Formats, RunFormats, Edges}
 use Rattle.command_line.specs.Requests.{Text, Asked, judging, refusing, showing}
 use Rattle.command_line.specs.Options.{no_notes, notes_of}
 use Rattle.command_line.specs.Subcommands.{Subcommand, asks, subcommands, text_by_name}
@@ -26,9 +26,10 @@ abbrev pub memory_of : OptionNames → NameList → Bor (List (Bor Text))
 memory_of names Units = names.units
 memory_of names Models = names.models
 memory_of names Formats = names.formats
+memory_of names RunFormats = names.run_formats
 memory_of names Edges = names.edges
 
--- the lists in memory have the names of the units, of the memory models, of the formats and of the names of edges
+-- the lists in memory have the names of the units, of the memory models, of the formats of batches and of runs, and of the names of edges
 abbrev pub HasKnownNames : OptionNames → Type 0
 HasKnownNames names = (list : NameList) → map (λ name. name.now) (memory_of names list).now ≡ known_names list
 
@@ -78,7 +79,7 @@ IsAskedBy [] found asked = asked ≡ asked_by found
 IsAskedBy kinds found asked = (kind : ErrorKind) × IsAmong kind kinds × (asked ≡ asked_at kind)
 
 -- what `clap` says that the arguments ask for, where `--unit` takes the names of the units, `--model` those of the memory
--- models, `--format` those of the formats, and `--edges` those of the names of edges
+-- models, `--format` those of the formats, of a batch or of a run, and `--edges` those of the names of edges
 abbrev pub IsAskedFor : List Text → Asked → Type 0
 IsAskedFor arguments asked = (names : OptionNames) × HasKnownNames names
     × IsAskedBy (fault_of (tsobench_app names) arguments) (subcommand_of (tsobench_app names) arguments) asked

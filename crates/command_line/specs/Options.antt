@@ -20,6 +20,8 @@ use Rattle.request_options.specs.declared.outcomes.OutcomeForm.{OutcomeForm}
 use Rattle.request_options.specs.declared.outcomes.OutcomeForm.TheVariants.{States, Traces}
 use Rattle.command_line.specs.declared.options.Printing.{Printing}
 use Rattle.request_options.specs.declared.following.FollowOptions.{FollowOptions}
+use Rattle.request_options.specs.declared.following.RunFormat.{RunFormat}
+use Rattle.request_options.specs.declared.following.RunFormat.TheVariants as in_run
 use Rattle.request_options.specs.declared.logs.LogForm.{LogForm}
 use Rattle.request_options.specs.declared.logs.LogForm.TheVariants as forms
 use Rattle.request_options.specs.declared.logs.LogOptions.{LogOptions}
@@ -29,7 +31,7 @@ use Rattle.command_line.specs.declared.options.ShapeNumbers.{ShapeNumbers}
 use Rattle.command_line.specs.declared.options.UnitKind.TheVariants.{Serial}
 use Rattle.command_line.specs.declared.options.UnitOptions.{UnitOptions}
 use Rattle.command_line.specs.declared.requests.Notes.{Notes}
-use Rattle.command_line.specs.Names.{formats, models, units}
+use Rattle.command_line.specs.Names.{formats, models, run_formats, units}
 use Rattle.command_line.specs.Requests.{Text, capacity_limit, drain_turns_limit, log_effort_limit, log_violation_limit, number_limit, percent_limit, requested_worker_limit, run_times_limit}
 
 -- the number of 64 bits that a text spells, in digits after a plus sign or none; none where there is no text, or it spells none
@@ -119,11 +121,16 @@ log_options_of given =
     option_map (log_options_in given)
     (log_form_of (is_true (given (codes "trace"))) (is_true (given (codes "explain"))))
 
+abbrev pub chosen_run_format : Option Text → RunFormat
+chosen_run_format text = unwrap_or (option_and_then (λ name. value_named name run_formats) text) in_run.Words
+
 abbrev pub follow_options_of : (Text → Option Text) → FollowOptions
 follow_options_of given = record {
   most = within 1 log_violation_limit (number_or 10 (given (codes "most")));
   needs_end = is_true (given (codes "ended"));
   is_fast = is_true (given (codes "fail-fast"));
+  format = chosen_run_format (given (codes "format"));
+  is_explained = is_true (given (codes "explain"));
 }
 
 abbrev pub given_shape : (Text → Option Text) → ShapeNumbers

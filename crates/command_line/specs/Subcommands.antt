@@ -11,7 +11,7 @@ use Rattle.command_line.specs.declared.options.Presentation.{Presentation}
 use Rattle.command_line.specs.declared.options.Presentation.TheVariants as form
 use Rattle.command_line.specs.declared.options.RunOptions.{RunOptions}
 use Rattle.command_line.specs.declared.parameters.NameList.{NameList}
-use Rattle.command_line.specs.declared.parameters.NameList.TheVariants.{Units, Models, Formats}
+use Rattle.command_line.specs.declared.parameters.NameList.TheVariants.{Units, Models, Formats, RunFormats}
 use Rattle.command_line.specs.Pictures.{chosen_picture, edges, picture_form}
 use Rattle.command_line.specs.Requests.{Text, Asked, batching, campaigning, capacity_limit, checking, counting, deciding, drain_turns_limit, following, judging, listing, log_effort_limit, log_violation_limit, logging, making, number_limit, percent_limit, prints_trace, reducing, refusing, repeating, replaying, run_times_limit, running, verifying, requested_worker_limit}
 use Rattle.command_line.specs.Options.{batch_printing_of, campaign_printing_of, chosen_order, drain_turns_of, effort_of, execution_of, follow_options_of, given_number, given_shape, given_unit, is_true, log_options_of, number_or, outcome_form_of, pair_of, run_of, times_of, workers_of}
@@ -186,12 +186,14 @@ log = record {
   ask = λ given. option_map_or (logging (file_of (given (codes "file")))) (log_options_of given) refusing;
 }
 
--- `follow [--most K] [--ended] [--fail-fast] [--verbose] [LOG]`: follows the run in a file, or on standard input
+-- `follow [--most K] [--explain] [--format FORMAT] [--ended] [--fail-fast] [--progress] [--verbose] [LOG]`: follows the run in a file, or on standard input
 abbrev pub follow : Subcommand
 follow = record {
   name = codes "follow";
   parameters =
-      option (codes "most") (range 1 log_violation_limit) (Some (codes "10")) ∷ flag (codes "ended") ∷ flag (codes "fail-fast") ∷ verbose ∷ other (codes "file") false ∷ [];
+      option (codes "most") (range 1 log_violation_limit) (Some (codes "10")) ∷ flag (codes "explain")
+      ∷ option (codes "format") (listed RunFormats) (Some (codes "words")) ∷ flag (codes "ended") ∷ flag (codes "fail-fast") ∷ progress ∷ verbose
+      ∷ other (codes "file") false ∷ [];
   ask = λ given. following (file_of (given (codes "file"))) (follow_options_of given);
 }
 

@@ -2,10 +2,10 @@
 ghost use Rattle.std.specs.Prelude.{◌≡◌};
 ghost use Rattle.command_line.specs.Given.{value_named};
 ghost use Rattle.command_line.specs.Commands.{HasKnownNames};
-ghost use Rattle.command_line.specs.Names.{formats, models, pictures, units};
+ghost use Rattle.command_line.specs.Names.{formats, models, pictures, run_formats, units};
 ghost use Rattle.command_line.specs.Requests.{prints_trace};
 
-use request_options::{BatchFormat, CampaignPrinting, Execution, FaultKind};
+use request_options::{BatchFormat, CampaignPrinting, Execution, FaultKind, RunFormat};
 use tso_ops::Order;
 
 /// The greatest number of workers.
@@ -97,11 +97,13 @@ pub(crate) struct OptionNames<'a> {
     pub(crate) models: &'a [&'a str],
     /// Those of the formats of a batch.
     pub(crate) formats: &'a [&'a str],
+    /// Those of the formats of what is told of a run.
+    pub(crate) run_formats: &'a [&'a str],
     /// Those of the names that the edges of a picture have.
     pub(crate) edges: &'a [&'a str],
 }
 
-/// The names of all kinds of units, of all memory models, of all formats and of all names of edges.
+/// The names of all kinds of units, of all memory models, of all formats of batches and of runs, and of all names of edges.
 pub(crate) fn option_names() -> OptionNames<'static>
     ensures { HasKnownNames result }
 {
@@ -109,6 +111,7 @@ pub(crate) fn option_names() -> OptionNames<'static>
         units: UNIT_NAMES.as_slice(),
         models: MODEL_NAMES.as_slice(),
         formats: FORMAT_NAMES.as_slice(),
+        run_formats: RUN_FORMAT_NAMES.as_slice(),
         edges: EDGES_NAMES.as_slice(),
     }
 }
@@ -198,6 +201,20 @@ pub(crate) fn format_named(name: &str) -> Option<BatchFormat>
         "words" => Some(BatchFormat::Words),
         "json" => Some(BatchFormat::Json),
         "junit" => Some(BatchFormat::Junit),
+        _ => None,
+    }
+}
+
+/// The names of the formats of what is told of a run, as `--format` of `follow` takes them; `run_format_named` knows each.
+static RUN_FORMAT_NAMES: [&str; 2] = ["words", "json"];
+
+/// The format of this name, of what is told of a run.
+pub(crate) fn run_format_named(name: &str) -> Option<RunFormat>
+    ensures { result ≡ value_named name.now run_formats }
+{
+    match name {
+        "words" => Some(RunFormat::Words),
+        "json" => Some(RunFormat::Json),
         _ => None,
     }
 }

@@ -21,6 +21,8 @@ pub(crate) enum NameList {
     Models,
     /// Those of the formats of a batch.
     Formats,
+    /// Those of the formats of what is told of a run.
+    RunFormats,
     /// Those of the names that the edges of a picture have.
     Edges,
 }
@@ -170,6 +172,7 @@ fn parser<'a>(names: OptionNames<'a>, accepted: Accepted) -> ValueParser<'a>
         Accepted::Name(NameList::Units) => ValueParser::Names(names.units),
         Accepted::Name(NameList::Models) => ValueParser::Names(names.models),
         Accepted::Name(NameList::Formats) => ValueParser::Names(names.formats),
+        Accepted::Name(NameList::RunFormats) => ValueParser::Names(names.run_formats),
         Accepted::Name(NameList::Edges) => ValueParser::Names(names.edges),
         Accepted::Text => ValueParser::String,
     }

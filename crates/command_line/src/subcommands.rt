@@ -175,13 +175,14 @@ impl Subcommand {
             | Subcommand::Explain
             | Subcommand::Draw
             | Subcommand::Reduce
-            | Subcommand::Follow
             | Subcommand::Check
             | Subcommand::Verify
             | Subcommand::Outcomes
             | Subcommand::Replay
             | Subcommand::Run => found::verbose_notes(matches),
-            Subcommand::Batch | Subcommand::Log => found::both_notes(matches),
+            Subcommand::Batch | Subcommand::Log | Subcommand::Follow => {
+                found::both_notes(matches)
+            },
             Subcommand::Campaign => found::progress_notes(matches),
             Subcommand::Make => NO_NOTES,
         }

@@ -3,15 +3,15 @@ ghost use Rattle.std.specs.Prelude.{◌≡◌, ◌≤◌, codes, if◌then◌els
 ghost use Rattle.clap.specs.Words.{first_of, found_of, one_of, rows_of};
 ghost use Rattle.command_line.specs.Requests.{drain_turns_limit, requested_worker_limit, run_times_limit};
 ghost use Rattle.command_line.specs.Pictures.{chosen_picture};
-ghost use Rattle.command_line.specs.Options.{chosen_format, chosen_order, given_number, is_true, number_or, within};
+ghost use Rattle.command_line.specs.Options.{chosen_format, chosen_order, chosen_run_format, given_number, is_true, number_or, within};
 ghost use Rattle.command_line.specs.Subcommands.{file_of};
 
 use crate::options::{
     MAX_DRAIN_TURNS, MAX_REQUESTED_WORKERS, MAX_RUN_TIMES, Presentation, format_named, order_named,
-    picture_named,
+    picture_named, run_format_named,
 };
 use clap::ArgMatches;
-use request_options::BatchFormat;
+use request_options::{BatchFormat, RunFormat};
 use tso_ops::Order;
 
 /// What stands for standard input in place of the name of a file.
@@ -49,6 +49,14 @@ pub(crate) fn format(matches: &ArgMatches<'_>) -> BatchFormat
 {
     let named = matches.get_str("format").and_then(format_named);
     named.unwrap_or(BatchFormat::Words)
+}
+
+/// In what is told of a run: in words where no format is named.
+pub(crate) fn run_format(matches: &ArgMatches<'_>) -> RunFormat
+    ensures { result ≡ chosen_run_format (first_of (codes "format") (rows_of (found_of matches.now))) }
+{
+    let named = matches.get_str("format").and_then(run_format_named);
+    named.unwrap_or(RunFormat::Words)
 }
 
 /// The form of a picture: with the names of rules where no names of edges are named.

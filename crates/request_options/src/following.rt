@@ -1,5 +1,14 @@
 //! How a run that says its own order is followed.
 
+/// In what is told of a run that is followed.
+#[derive(Clone, Copy, Debug, PartialEq, Eq)]
+pub enum RunFormat {
+    /// In lines of words.
+    Words,
+    /// In one line of JSON.
+    Json,
+}
+
 /// How a run is followed.
 #[derive(Clone, Copy, Debug, PartialEq, Eq)]
 pub struct FollowOptions {
@@ -9,4 +18,8 @@ pub struct FollowOptions {
     pub needs_end: bool,
     /// Whether the first line that is no step ends the run.
     pub is_fast: bool,
+    /// In what is told of it.
+    pub format: RunFormat,
+    /// Whether each refusal is explained.
+    pub is_explained: bool,
 }

@@ -4,7 +4,7 @@
 pub use batches::{BatchFormat, BatchMethod, BatchPrinting};
 pub use campaigns::{CampaignPrinting, Execution};
 pub use faults::FaultKind;
-pub use following::FollowOptions;
+pub use following::{FollowOptions, RunFormat};
 pub use logs::{LogForm, LogOptions};
 pub use outcomes::{OutcomeForm, OutcomeOptions};
 

@@ -1,3 +1,4 @@
+pub mod AppendedFacts
 pub mod EndingFacts
 pub mod FollowFacts
 pub mod NotedFacts

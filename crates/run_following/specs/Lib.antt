@@ -3,11 +3,13 @@ pub mod Counts
 pub mod Facts
 pub mod Found
 pub mod Internal
+pub mod JsonLines
 pub mod KeptLines
 pub mod Noted
 pub mod PlacesSaid
 pub mod Reports
 pub mod Runs
+pub mod Sentences
 pub mod Stages
 pub mod Tallies
 pub mod Words

@@ -12,6 +12,7 @@ use Rattle.run_following.specs.declared.facts.Standing.{Standing}
 use Rattle.run_following.specs.declared.facts.Standing.TheVariants as standing
 use Rattle.run_following.specs.declared.facts.ToldRefusal.{ToldRefusal}
 use Rattle.run_following.specs.declared.found.RunFound.{RunFound}
+use Rattle.run_following.specs.Sentences.{sentence_words}
 use Rattle.tso_text.specs.declared.faults.Why.{Why}
 use Rattle.trace_reports.specs.RefusalLines.{refusal_text}
 
@@ -44,11 +45,16 @@ fact_words (Store line at) = standing_words line at
 abbrev pub told_words : ToldRefusal → List ℕ
 told_words t = line_words t.line ++ flat_map fact_words t.facts.items
 
+-- the sentence that explains it, where sentences are asked for
+abbrev pub explanation_words : Bool → ToldRefusal → List ℕ
+explanation_words explained t = if explained then sentence_words t ++ codes "\n" else []
+
 -- refusals, each after a line with its number, from this number on, and its kind
-abbrev pub refusals_words : ℕ → List ToldRefusal → List ℕ
-refusals_words number [] = []
-refusals_words number (t ∷ told) =
-    (codes "refusal " ++ decimal number ++ codes " " ++ kind_word t.kind ++ codes "\n" ++ told_words t) ++ refusals_words (number + 1) told
+abbrev pub refusals_words : Bool → ℕ → List ToldRefusal → List ℕ
+refusals_words explained number [] = []
+refusals_words explained number (t ∷ told) =
+    (codes "refusal " ++ decimal number ++ codes " " ++ kind_word t.kind ++ codes "\n" ++ told_words t ++ explanation_words explained t)
+    ++ refusals_words explained (number + 1) told
 
 -- ---- the report
 
@@ -74,23 +80,15 @@ counts_words counts waiting = codes "TSO RUN 1\n" ++ operations_words counts ++ 
 abbrev pub holds_words : Bool → List ℕ
 holds_words compared = if compared then codes "RUN HOLDS\n" else codes "RUN HOLDS\nNOTHING COMPARED\n"
 
-abbrev pub run_verdict_words : RunFound → List ℕ
-run_verdict_words found =
+abbrev pub run_verdict_words : Bool → RunFound → List ℕ
+run_verdict_words explained found =
     if found.refusals == 0 then holds_words found.is_compared
-    else codes "RUN REFUSED\n" ++ refusals_words 1 found.told.items ++ codes "refusals " ++ decimal found.refusals ++ codes "\n"
+    else codes "RUN REFUSED\n" ++ refusals_words explained 1 found.told.items ++ codes "refusals " ++ decimal found.refusals ++ codes "\n"
 
--- the report on a run
-abbrev pub run_words : RunFound → List ℕ
-run_words found = counts_words found.counts found.waiting ++ run_verdict_words found
+-- the report on a run, where each refusal is explained or none is
+abbrev pub run_words : Bool → RunFound → List ℕ
+run_words explained found = counts_words found.counts found.waiting ++ run_verdict_words explained found
 
 -- a text that is refused
 abbrev pub refused_words : ℕ → Why → List ℕ
 refused_words line why = codes "TSO RUN 1\n" ++ refusal_text line why
-
--- the report, whatever else is known of the run
-abbrev pub run_rendered_in_words : Unit {0} → RunFound → List ℕ
-run_rendered_in_words run found = run_words found
-
--- the line of a refusal, whatever the text is
-abbrev pub run_refused_in_words : List ℕ → ℕ → Why → List ℕ
-run_refused_in_words text line why = refused_words line why

@@ -5,7 +5,7 @@
 
 pub use counts::RunCounts;
 pub use facts::{Fact, NamedLine, RefusalKind, Standing, ToldRefusal};
-pub use forms::AsRunWords;
+pub use forms::{AsRunJson, AsRunWords};
 pub use found::RunFound;
 pub use reports::follow_run;
 pub use stages::Stage;
@@ -15,9 +15,11 @@ mod facts;
 mod followers;
 mod forms;
 mod found;
+mod json_lines;
 mod kept_lines;
 mod noted;
 mod reports;
+mod sentences;
 mod stages;
 mod streams;
 mod tallies;

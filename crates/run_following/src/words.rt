@@ -1,21 +1,26 @@
 //! The report on a run, in words.
 ghost use Rattle.std.specs.Prelude.{◌≡◌, ◌++◌, IfOk, OnOk, string_bytes};
-ghost use Rattle.run_following.specs.Words.{counts_words, fact_words, holds_words, kind_word, line_words, number_words, operations_words, others_words, refusals_words, refused_words, run_words, standing_words, told_words, run_verdict_words};
+ghost use Rattle.run_following.specs.Words.{counts_words, explanation_words, fact_words, holds_words, kind_word, line_words, number_words, operations_words, others_words, refusals_words, refused_words, run_words, standing_words, told_words, run_verdict_words};
 
 use crate::counts::RunCounts;
 use crate::facts::{Fact, NamedLine, RefusalKind, Standing, ToldRefusal};
 use crate::found::RunFound;
+use crate::sentences::push_sentence;
 use std::alloc::{AllocError, Global};
 use std::fmt::Write;
 use tso_text::TextFault;
 
-/// The report. OutOfMemory where an allocation was refused.
-pub(crate) fn render_words(alloc: Global, found: &RunFound) -> Result<String, AllocError>
-    ensures { IfOk result (λ text. string_bytes text ≡ run_words found.now) }
+/// The report, where each refusal is explained or none is. OutOfMemory where an allocation was refused.
+pub(crate) fn render_words(
+    alloc: Global,
+    found: &RunFound,
+    is_explained: bool,
+) -> Result<String, AllocError>
+    ensures { IfOk result (λ text. string_bytes text ≡ run_words is_explained found.now) }
 {
     let mut text = String::new(alloc);
     push_counts(&mut text, found.counts, found.waiting)?;
-    push_verdict(&mut text, found)?;
+    push_verdict(&mut text, found, is_explained)?;
     Ok(text)
 }
 
@@ -60,7 +65,7 @@ fn push_others(text: &mut String, counts: RunCounts, waiting: usize) -> Result<(
 }
 
 /// Appends a number after a word.
-fn push_number(text: &mut String, word: &str, number: u64) -> Result<(), AllocError>
+pub(crate) fn push_number(text: &mut String, word: &str, number: u64) -> Result<(), AllocError>
     ensures { OnOk result (string_bytes text.new ≡ string_bytes text.old ++ number_words word.now number) }
 {
     write!(text, "{word}{number}")?;
@@ -68,15 +73,15 @@ fn push_number(text: &mut String, word: &str, number: u64) -> Result<(), AllocEr
 }
 
 /// Appends the verdict, and the refusals.
-fn push_verdict(text: &mut String, found: &RunFound) -> Result<(), AllocError>
-    ensures { OnOk result (string_bytes text.new ≡ string_bytes text.old ++ run_verdict_words found.now) }
+fn push_verdict(text: &mut String, found: &RunFound, is_explained: bool) -> Result<(), AllocError>
+    ensures { OnOk result (string_bytes text.new ≡ string_bytes text.old ++ run_verdict_words is_explained found.now) }
 {
     let refusals = found.refusals;
     if refusals == 0 {
         return text.push_str(holds_words(found.is_compared));
     }
     text.push_str("RUN REFUSED\n")?;
-    push_refusals(text, &found.told)?;
+    push_refusals(text, &found.told, is_explained)?;
     write!(text, "refusals {refusals}\n")?;
     Ok(())
 }
@@ -93,14 +98,34 @@ fn holds_words(is_compared: bool) -> &'static str
 }
 
 /// Appends the refusals, each after a line with its number.
-fn push_refusals(text: &mut String, told: &[ToldRefusal]) -> Result<(), AllocError>
-    ensures { OnOk result (string_bytes text.new ≡ string_bytes text.old ++ refusals_words 1 told.now) }
+fn push_refusals(
+    text: &mut String,
+    told: &[ToldRefusal],
+    is_explained: bool,
+) -> Result<(), AllocError>
+    ensures { OnOk result (string_bytes text.new ≡ string_bytes text.old ++ refusals_words is_explained 1 told.now) }
 {
     for (k, refusal) in told.iter().enumerate() {
         let number = k + 1;
         let kind = kind_word(refusal.kind);
         write!(text, "refusal {number} {kind}\n")?;
         push_refusal(text, refusal)?;
+        push_explanation(text, refusal, is_explained)?;
+    }
+    Ok(())
+}
+
+/// Appends the sentence that explains a refusal, where sentences are asked for.
+fn push_explanation(
+    text: &mut String,
+    refusal: &ToldRefusal,
+    is_explained: bool,
+) -> Result<(), AllocError>
+    ensures { OnOk result (string_bytes text.new ≡ string_bytes text.old ++ explanation_words is_explained refusal.now) }
+{
+    if is_explained {
+        push_sentence(text, refusal)?;
+        return text.push_str("\n");
     }
     Ok(())
 }
@@ -117,7 +142,7 @@ fn push_refusal(text: &mut String, refusal: &ToldRefusal) -> Result<(), AllocErr
 }
 
 /// The name of a kind.
-fn kind_word(kind: RefusalKind) -> &'static str
+pub(crate) fn kind_word(kind: RefusalKind) -> &'static str
     ensures { result.now ≡ kind_word kind }
 {
     match kind {

@@ -1,27 +1,10 @@
 -- How the name of a text, or what explains a violation, stands in the lines of a batch: characters that would break a line, or that its format gives another
 -- meaning, are escaped.
-use Rattle.std.specs.Prelude.{ℕ, ◌/◌, ◌%◌, ◌==◌, ◌||◌, Bool, List, [], ◌++◌, Option, None, Some, chars, codes, encode_utf8, flat_map, nat_lt, slice_index, if◌then◌else◌}
+use Rattle.std.specs.Prelude.{ℕ, ◌==◌, ◌||◌, Bool, List, [], ◌++◌, Option, None, Some, chars, codes, encode_utf8, flat_map, nat_lt, if◌then◌else◌}
 use Rattle.std.specs.Fmt.{decimal}
+use Rattle.json_texts.specs.Characters.{json_character, printable}
 use Rattle.request_options.specs.declared.batches.BatchFormat.{BatchFormat}
 use Rattle.request_options.specs.declared.batches.BatchFormat.TheVariants.{Words, Json, Junit}
-
--- ---- in words and in JSON
-
--- a hexadecimal digit
-abbrev pub hexadecimal_digit : ℕ → List ℕ
-hexadecimal_digit d = encode_utf8 (slice_index (codes "0123456789abcdef") d)
-
--- a control character, one below 32, as JSON escapes it: by its number, in four hexadecimal digits
-abbrev pub control_escape : ℕ → List ℕ
-control_escape c = codes "\\u00" ++ hexadecimal_digit (c / 16) ++ hexadecimal_digit (c % 16)
-
--- in words just these are escaped
-abbrev pub word_character : ℕ → List ℕ
-word_character c = if nat_lt c 32 then control_escape c else encode_utf8 c
-
--- and in JSON a quote (34) and a backslash (92) too
-abbrev pub json_character : ℕ → List ℕ
-json_character c = if c == 34 then codes "\\\"" else if c == 92 then codes "\\\\" else word_character c
 
 -- ---- in XML
 
@@ -55,7 +38,7 @@ xml_character c =
 -- ---- in each format
 
 abbrev pub text_character : BatchFormat → ℕ → List ℕ
-text_character Words c = word_character c
+text_character Words c = printable c
 text_character Json c = json_character c
 text_character Junit c = xml_character c
 

@@ -1,16 +1,12 @@
 //! The names of texts, and what explains a violation, as they stand in the lines of a batch.
-ghost use Rattle.std.specs.Prelude.{◌≡◌, ◌<◌, ◌++◌, None, Some, IfOk, OnOk, option_map, string_bytes};
-ghost use Rattle.trace_batches.specs.BatchNames.{hexadecimal_digit, control_escape, escaped_text, is_outside_xml, is_xml_space, json_character, text_character, plain_xml_character, text_label, word_character, xml_character};
+ghost use Rattle.std.specs.Prelude.{◌≡◌, ◌++◌, None, Some, IfOk, OnOk, option_map, string_bytes};
+ghost use Rattle.trace_batches.specs.BatchNames.{escaped_text, is_outside_xml, is_xml_space, text_character, plain_xml_character, text_label, xml_character};
 
+use json_texts::{push_json_character, push_printable};
 use request_options::BatchFormat;
 use std::alloc::Global;
 use std::fmt::Write;
 use tso_ops::OutOfMemory;
-
-/// The hexadecimal digits.
-const DIGITS: [char; 16] = [
-    '0', '1', '2', '3', '4', '5', '6', '7', '8', '9', 'a', 'b', 'c', 'd', 'e', 'f',
-];
 
 /// What stands in the lines of a text that has this name, or none.
 pub(crate) fn text_label(
@@ -74,50 +70,9 @@ fn push_character(
     ensures { OnOk result (string_bytes text.new ≡ string_bytes text.old ++ text_character format character) }
 {
     match format {
-        BatchFormat::Words => push_in_words(text, character),
-        BatchFormat::Json => push_in_json(text, character),
+        BatchFormat::Words => Ok(push_printable(text, character)?),
+        BatchFormat::Json => Ok(push_json_character(text, character)?),
         BatchFormat::Junit => push_in_xml(text, character),
-    }
-}
-
-/// Appends a character in words.
-fn push_in_words(text: &mut String, character: char) -> Result<(), OutOfMemory>
-    ensures { OnOk result (string_bytes text.new ≡ string_bytes text.old ++ word_character character) }
-{
-    let code = character as u32;
-    if code < 32 {
-        push_control(text, code)
-    } else {
-        Ok(text.push(character)?)
-    }
-}
-
-/// Appends the escape of a control character, by its number.
-fn push_control(text: &mut String, code: u32) -> Result<(), OutOfMemory>
-    requires { code < 32 }
-    ensures { OnOk result (string_bytes text.new ≡ string_bytes text.old ++ control_escape code) }
-{
-    text.push_str("\\u00")?;
-    push_digit(text, code / 16)?;
-    push_digit(text, code % 16)
-}
-
-/// Appends a hexadecimal digit.
-fn push_digit(text: &mut String, digit: u32) -> Result<(), OutOfMemory>
-    requires { digit < 16 }
-    ensures { OnOk result (string_bytes text.new ≡ string_bytes text.old ++ hexadecimal_digit digit) }
-{
-    Ok(text.push(DIGITS[digit as usize])?)
-}
-
-/// Appends a character in a text of JSON.
-fn push_in_json(text: &mut String, character: char) -> Result<(), OutOfMemory>
-    ensures { OnOk result (string_bytes text.new ≡ string_bytes text.old ++ json_character character) }
-{
-    match character {
-        '"' => Ok(text.push_str("\\\"")?),
-        '\\' => Ok(text.push_str("\\\\")?),
-        _ => push_in_words(text, character),
     }
 }
 

@@ -8,7 +8,7 @@ ghost use Rattle.command_line.specs.Subcommands.{follow};
 
 use crate::options::MAX_LOG_VIOLATIONS;
 use crate::requests::{FollowRequest, Request};
-use crate::values::{file, is_used, number_within};
+use crate::values::{file, is_used, number_within, run_format};
 use clap::ArgMatches;
 use request_options::FollowOptions;
 
@@ -30,5 +30,7 @@ fn follow_options(matches: &ArgMatches<'_>) -> FollowOptions
         most: number_within(matches, "most", 10, 1, MAX_LOG_VIOLATIONS as u64) as usize,
         needs_end: is_used(matches, "ended"),
         is_fast: is_used(matches, "fail-fast"),
+        format: run_format(matches),
+        is_explained: is_used(matches, "explain"),
     }
 }

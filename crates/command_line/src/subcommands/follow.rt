@@ -1,8 +1,8 @@
-//! `follow [--most K] [--ended] [--fail-fast] [--verbose] [LOG]`: follows a run that says its own order.
+//! `follow [--most K] [--explain] [--format FORMAT] [--ended] [--fail-fast] [--progress] [--verbose] [LOG]`: follows a run that says its own order.
 
 use crate::help::Help;
 use crate::options::MAX_LOG_VIOLATIONS;
-use crate::parameters::{Accepted, Description, Parameter};
+use crate::parameters::{Accepted, Description, NameList, Parameter};
 use crate::subcommands::shared;
 
 /// The text of its help after the list of its parameters.
@@ -43,6 +43,10 @@ why, as refusal 1 Value, and repeats the line and those that show it:
   Reservation    the reservation was lost by this store
   NoReservation  there is no reservation that has the address
 
+With --explain a sentence says the same of each refusal. With --format json the
+report is one object of JSON: its numbers, a list `shown` of the refusals with
+what shows them, and `refusals`, how many there are in all.
+
 With --fail-fast the report comes at the first such line, and nothing more is
 read. Where no value was compared, a line NOTHING COMPARED follows. If the text
 is none of this form, a line says so, as REFUSED BadLine line 3.
@@ -75,6 +79,17 @@ pub(crate) static FOLLOW: Description = Description {
             help: "How many refusals are shown at most, 1 to 1000000",
         },
         Parameter::Flag {
+            name: "explain",
+            help: "Explains each refusal in a sentence",
+        },
+        Parameter::Option {
+            name: "format",
+            value_name: "FORMAT",
+            accepted: Accepted::Name(NameList::RunFormats),
+            default: Some("words"),
+            help: "How the report is written, words or json",
+        },
+        Parameter::Flag {
             name: "ended",
             help: "Refuses a log that does not end with a line `end`",
         },
@@ -82,6 +97,7 @@ pub(crate) static FOLLOW: Description = Description {
             name: "fail-fast",
             help: "Ends at the first line that is no step",
         },
+        shared::PROGRESS,
         shared::VERBOSE,
         Parameter::Other {
             name: "file",

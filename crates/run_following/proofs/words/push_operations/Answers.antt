@@ -1,12 +1,8 @@
-use Rattle.std.proofs.Common.{◌≡◌, ◌∙◌, ◌++◌, ap, append_assoc, codes, string_bytes, List, ℕ}
+use Rattle.std.proofs.Common.{codes, string_bytes}
 use Rattle.std.proofs.lemmas.Result.{on_ok_weaker}
 use Rattle.run_following.specs.Words.{number_words}
+use Rattle.run_following.proofs.AppendedFacts.{three_more}
 use Rattle.run_following.proofs.words.push_operations.Goals as goal
-
--- three texts after one
-three_more : (a b c d x y z : List ℕ) → b ≡ a ++ x → c ≡ b ++ y → d ≡ c ++ z → d ≡ a ++ (x ++ y ++ z)
-three_more a b c d x y z first second third =
-    third ∙ ap (λ t. t ++ z) (second ∙ ap (λ t. t ++ y) first ∙ append_assoc a x y) ∙ append_assoc a (x ++ y) z
 
 pub returns : goal.returns
 returns c =

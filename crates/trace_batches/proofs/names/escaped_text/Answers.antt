@@ -1,13 +1,10 @@
-use Rattle.std.proofs.Common.{◌≡◌, ◌∙◌, ℕ, List, [], ◌∷◌, ap, map, refl, sym}
+use Rattle.std.proofs.Common.{◌∙◌, ap, sym}
 use Rattle.std.specs.List.{flat_map}
 use Rattle.std.proofs.lemmas.Iterator.{YieldsList-from_chars}
 use Rattle.std.proofs.lemmas.Iterator.Consumers.{YieldsList-end}
+use Rattle.json_texts.proofs.TextFacts.{each_itself}
 use Rattle.trace_batches.specs.BatchNames.{text_character}
 use Rattle.trace_batches.proofs.names.escaped_text.Goals as goal
-
-each_itself : (xs : List ℕ) → map (λ c. c) xs ≡ xs
-each_itself [] = refl
-each_itself (x ∷ xs) = ap (λ ys. x ∷ ys) (each_itself xs)
 
 pub returns : goal.returns
 returns c =
