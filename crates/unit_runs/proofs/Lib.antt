@@ -1,0 +1,5 @@
+pub mod SameStores
+pub mod Drains
+pub mod Loads
+pub mod Moments
+pub mod Runs

@@ -1,0 +1,8 @@
+use Rattle.unit_runs.proofs.Runs.{exactly, same_after}
+use Rattle.unit_runs.proofs.laws.unit_runs_are_runs.Goals as goal
+
+pub returns-clause-exactly : goal.returns-clause-exactly
+returns-clause-exactly c = exactly
+
+pub returns-clause-states : goal.returns-clause-states
+returns-clause-states c = same_after
