@@ -3,3 +3,4 @@ pub mod Drains
 pub mod Loads
 pub mod Moments
 pub mod Runs
+pub mod Starts

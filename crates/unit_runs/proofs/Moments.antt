@@ -118,7 +118,7 @@ cell_holds r b cell v memory words within is before a small = elim (cases_eq b a
 ]
 
 -- what is written to a location is written into its one cell
-filled_one : (memory : Memory) (b : ℕ) (place : Place) (cell : ℕ → Cell) (v : ℕ) → IsLocation b place → filled memory place.address (map cell (cell_parts place v)) ≡ with_cell memory b (cell v)
+pub filled_one : (memory : Memory) (b : ℕ) (place : Place) (cell : ℕ → Cell) (v : ℕ) → IsLocation b place → filled memory place.address (map cell (cell_parts place v)) ≡ with_cell memory b (cell v)
 filled_one memory b place cell v is = ap (λ n. filled memory place.address (map cell (parts_from n (cells_of n) v))) is.width ∙ ap (λ n. with_cell memory n (cell v)) is.address
 
 -- a store to a location that reaches memory

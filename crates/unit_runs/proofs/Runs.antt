@@ -1,5 +1,5 @@
 -- Each step of a run of both machines: one may take it exactly where the other may, and both get to the same state.
-use Rattle.std.proofs.Common.{◌≡◌, ◌↔◌, ◌∙◌, inl, inr, sym, ap, refl, subst, ℕ, suc, ◌<◌, Option, None, Some, List, [], ◌∷◌, ◌++◌, length, length-set, set, slice_get, slice_index, arith}
+use Rattle.std.proofs.Common.{◌≡◌, ◌↔◌, ◌∙◌, inl, inr, sym, ap, refl, subst, ℕ, suc, ◌<◌, Option, None, Some, List, [], ◌∷◌, ◌++◌, length, length-set, get_or, set, slice_get, slice_index, arith}
 use Rattle.std.specs.List.{remove, AllByRecursion}
 use Rattle.std.specs.Option.{option_map_or}
 use Rattle.std.proofs.lemmas.List.{get_or-replicate, get_or-set_same, get_or-set_other}
@@ -7,18 +7,20 @@ use Rattle.tso_ops.specs.declared.settings.Order.{Order}
 use Rattle.unit_core.specs.declared.steps.Step.{Step}
 use Rattle.unit_core.specs.declared.steps.Step.TheVariants.{Store, Drain, DrainAt, Load, Swap, Membar, Stbar}
 use Rattle.unit_core.specs.Machine.{Entry, State, IsAllowed, IsRun, IsRunFrom, after, buffer_of, drained, first_state, next, oldest_of, proc_of, stbars_of, written}
+use Rattle.unit_core.proofs.LastDrainFacts.{run_parts}
 use Rattle.unit_core.proofs.RunFacts.{first-empty}
 use Rattle.run_steps.specs.declared.places.Place.{Place}
 use Rattle.run_steps.specs.declared.processors.WaitingStore.{WaitingStore}
 use Rattle.run_steps.specs.Machine.{MachineState, ProcessorState, admitted, drained_number, draining, idle, next_state, processor_in, reaching, storing, waits_of, with_processor, with_store, with_waits}
+use Rattle.run_steps.specs.Reads.{seen_in}
 use Rattle.run_steps.specs.Runs.{HoldsFrom, state_after}
 use Rattle.run_steps.specs.Steps.{MayDrain, MayStep}
 use Rattle.run_steps.proofs.StepFacts.{step_leads}
-use Rattle.unit_runs.specs.Lines.{AreLocations, IsWithin, lines_of, run_step_of, start_of}
+use Rattle.unit_runs.specs.Lines.{AreLocations, IsStartOf, IsWithin, lines_of, run_step_of}
 use Rattle.unit_runs.specs.States.{AreSameStores, IsSameState, IsSameStore}
 use Rattle.unit_runs.proofs.SameStores.{before_more, none_buffered, none_waits, one_pushed, one_removed, store_at}
 use Rattle.unit_runs.proofs.Drains.{first_drains, first_number, first_waits, oldest_address, place_drains, place_number, place_waits}
-use Rattle.unit_runs.proofs.Loads.{read_exactly, same_read}
+use Rattle.unit_runs.proofs.Loads.{read_exactly, same_read, value_seen}
 use Rattle.unit_runs.proofs.Moments.{IsMoment, has_place, matched-all, matched-equal, matched-later, moment-admitted, reached_holds, reached_same, same_state}
 
 -- ---- which steps may be taken
@@ -236,20 +238,28 @@ module _ (order : Order) (places : ℕ → Place) (located : AreLocations places
       (run_leads (suc line) (next s step) (next_state line p (run_step_of places step) from) steps (next_moment line s r step moment run.0) run.1)
 
 -- the two machines begin in the same state
-first_moment : (memory : List ℕ) → length memory ≡ 256 → IsMoment 1 (first_state memory) (start_of memory)
-first_moment memory words = record {
-  words = words;
-  buffers = refl;
-  stbars = refl;
-  memory = λ a small. refl;
-  matched = λ p small.
-      matched-equal 1 _ [] [] [] _ 0 0 0 (first-empty memory p) refl (get_or-replicate 16 p 0 0 small) refl (inl (refl, refl), omega arith);
-}
+first_moment : (memory : List ℕ) (start : MachineState) (number : ℕ) → length memory ≡ 256 → IsStartOf memory start → 0 < number → IsMoment number (first_state memory) start
+first_moment memory start number words begins after_none =
+    let none : (p : ℕ) → processor_in start p ≡ idle = λ p. ap (λ xs. get_or xs p idle) begins.processors in
+    record {
+      words = words;
+      buffers = refl;
+      stbars = refl;
+      memory = λ a small. ap (λ cell. value_seen (seen_in cell)) (begins.first a small);
+      matched = λ p small.
+          matched-equal number _ [] _ [] _ 0 _ 0 (first-empty memory p) (ap (λ (x : ProcessorState). x.waits) (none p)) (get_or-replicate 16 p 0 0 small)
+          (ap (λ (x : ProcessorState). x.stbar) (none p)) (inl (refl, refl), after_none);
+    }
 
-pub exactly : (order : Order) (places : ℕ → Place) (memory : List ℕ) (steps : List Step) → AreLocations places → length memory ≡ 256 →
-    IsRun order memory steps ↔ (AllByRecursion (IsWithin order) steps × HoldsFrom order (start_of memory) (lines_of places 1 steps))
-exactly order places memory steps located words = run_exactly order places located 1 (first_state memory) (start_of memory) steps (first_moment memory words)
+pub exactly : (order : Order) (places : ℕ → Place) (memory : List ℕ) (start : MachineState) (number : ℕ) (steps : List Step) →
+    AreLocations places → length memory ≡ 256 → IsStartOf memory start → 0 < number →
+    IsRun order memory steps ↔ (AllByRecursion (IsWithin order) steps × HoldsFrom order start (lines_of places number steps))
+exactly order places memory start number steps located words begins after_none =
+    run_exactly order places located number (first_state memory) start steps (first_moment memory start number words begins after_none)
 
-pub same_after : (order : Order) (places : ℕ → Place) (memory : List ℕ) (steps : List Step) → AreLocations places → length memory ≡ 256 → IsRun order memory steps →
-    IsSameState (after (first_state memory) steps) (state_after (start_of memory) (lines_of places 1 steps))
-same_after order places memory steps located words run = run_leads order places located 1 (first_state memory) (start_of memory) steps (first_moment memory words) run
+pub same_after : (order : Order) (places : ℕ → Place) (memory : List ℕ) (start : MachineState) (number : ℕ) (steps later : List Step) →
+    AreLocations places → length memory ≡ 256 → IsStartOf memory start → 0 < number → IsRun order memory (steps ++ later) →
+    IsSameState (after (first_state memory) steps) (state_after start (lines_of places number steps))
+same_after order places memory start number steps later located words begins after_none run =
+    run_leads order places located number (first_state memory) start steps (first_moment memory start number words begins after_none)
+    (run_parts order (first_state memory) steps later run).0

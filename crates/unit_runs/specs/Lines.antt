@@ -10,7 +10,7 @@ use Rattle.run_steps.specs.declared.places.Place.{Place}
 use Rattle.run_steps.specs.declared.steps.RunLine.{RunLine}
 use Rattle.run_steps.specs.declared.steps.RunStep.{RunStep}
 use Rattle.run_steps.specs.declared.steps.RunStep.TheVariants as run
-use Rattle.run_steps.specs.Machine.{MachineState}
+use Rattle.run_steps.specs.Machine.{MachineState, presetting}
 
 -- the place is the location at the address
 pub record IsLocation (a : ℕ) (place : Place) : Type 0 where
@@ -46,6 +46,12 @@ IsWithin order (Swap p a r v) = (p < 16) × (a < 256)
 IsWithin order (Membar p) = p < 16
 IsWithin order (Stbar p) = p < 16
 
--- the state of a run before its first line, where each address has the word as its first value
-abbrev pub start_of : List ℕ → MachineState
-start_of memory = record { memory = λ a. First (slice_index memory a); processors = [] }
+-- A run begins so: its memory has the words as first values, and no processor has done anything.
+pub record IsStartOf (memory : List ℕ) (start : MachineState) : Type 0 where
+  pub first : (a : ℕ) → a < 256 → start.memory a ≡ First (slice_index memory a)
+  pub processors : start.processors ≡ []
+
+-- the state after these are given as first values of the addresses from a on
+abbrev pub preset_from : (ℕ → Place) → ℕ → List ℕ → MachineState → MachineState
+preset_from places a [] s = s
+preset_from places a (v ∷ values) s = preset_from places (suc a) values (presetting (places a) v s)
