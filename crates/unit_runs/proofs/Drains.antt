@@ -49,7 +49,8 @@ number_by true i j same = refl
 number_by false i j same = omega (arith, same)
 
 -- the oldest store at the place has the number of the oldest entry of the address
-pub oldest_number : (a : ℕ) (place : Place) → IsLocation a place → (n t : ℕ) (buffer : List Entry) (waits : List WaitingStore) (m u : ℕ) → AreSameStores n t buffer waits m u →
+pub oldest_number : (a : ℕ) (place : Place) → IsLocation a place → (n t : ℕ) (buffer : List Entry) (waits : List WaitingStore) (m u : ℕ) →
+    AreSameStores n t buffer waits m u →
     position_or_len (λ w. is_place place w.place) waits ≡ oldest_of buffer a
 oldest_number a place is n t [] [] m u same = refl
 oldest_number a place is n t [] (w ∷ waits) m u same = absurd same
@@ -66,7 +67,8 @@ found_at false i k e = absurd (none-some k e)
 -- ---- which stores keep it back
 
 -- an older one of another address with the same STBARs before it doesn't
-passes_one : (a b : ℕ) (newer older : WaitingStore) → IsLocation a newer.place → IsLocation b older.place → (b ≡ a → ⊥) → older.stbar ≡ newer.stbar → keeps_back Pso newer older ≡ false
+passes_one : (a b : ℕ) (newer older : WaitingStore) → IsLocation a newer.place → IsLocation b older.place → (b ≡ a → ⊥) → older.stbar ≡ newer.stbar →
+    keeps_back Pso newer older ≡ false
 passes_one a b newer older is other_is other same =
     ap (λ b. b || not (older.stbar == newer.stbar)) (apart b a older.place newer.place other_is is other) ∙ ap not (eq-eqb older.stbar newer.stbar same)
 
@@ -107,7 +109,8 @@ passes_all n t (f ∷ buffer) (x ∷ waits) (suc k) m u a e w same read waiting 
 
 -- an entry whose store passes all older ones: none has fewer STBARs before it
 has_least : (n t : ℕ) (buffer : List Entry) (waits : List WaitingStore) (k j m u : ℕ) (e f : Entry) (w : WaitingStore) → AreSameStores n t buffer waits m u →
-    slice_get buffer k ≡ Some e → slice_get waits k ≡ Some w → AllByRecursion (λ older. keeps_back Pso w older ≡ false) (take k waits) → slice_get buffer j ≡ Some f → e.stbars ≤ f.stbars
+    slice_get buffer k ≡ Some e → slice_get waits k ≡ Some w → AllByRecursion (λ older. keeps_back Pso w older ≡ false) (take k waits) →
+    slice_get buffer j ≡ Some f → e.stbars ≤ f.stbars
 has_least n t [] waits k j m u e f w same read waiting passes at = absurd cc
 has_least n t (x ∷ buffer) [] k j m u e f w same read waiting passes at = absurd same
 has_least n t (x ∷ buffer) (y ∷ waits) zero zero m u e f w same read waiting passes at =
@@ -121,7 +124,8 @@ has_least n t (x ∷ buffer) (y ∷ waits) (suc k) zero m u e f w same read wait
     let after = both_at x.stbars y.stbar buffer waits k m u e w same.2 read waiting in
     let counts = same_line x.stbars y.stbar e.stbars w.stbar after (passed_one w y passes.0) in
     subst (λ (z : Entry). e.stbars ≤ z.stbars) one (omega (arith, counts))
-has_least n t (x ∷ buffer) (y ∷ waits) (suc k) (suc j) m u e f w same read waiting passes at = has_least x.stbars y.stbar buffer waits k j m u e f w same.2 read waiting passes.1 at
+has_least n t (x ∷ buffer) (y ∷ waits) (suc k) (suc j) m u e f w same read waiting passes at =
+    has_least x.stbars y.stbar buffer waits k j m u e f w same.2 read waiting passes.1 at
 
 -- ---- drains
 
@@ -155,7 +159,8 @@ module _ (order : Order) (n t : ℕ) (buffer : List Entry) (waits : List Waiting
         let test : nat_lt k (length waits) ≡ true = grind (arith, nat_tests) in
         ap (λ i. cond (nat_lt i (length waits)) (Some i) None) (oldest_number a place is n t buffer waits m u same) ∙ ap (λ b. cond b (Some k) None) test
 
-    pub place_drains : WaitsFirst buffer (oldest_of buffer a) → (e : Entry) → slice_get buffer (oldest_of buffer a) ≡ Some e → e.a ≡ a → MayDrain Pso (Some place) waits None
+    pub place_drains : WaitsFirst buffer (oldest_of buffer a) → (e : Entry) → slice_get buffer (oldest_of buffer a) ≡ Some e → e.a ≡ a →
+        MayDrain Pso (Some place) waits None
     place_drains first e read of_a =
         let k = oldest_of buffer a in
         let found = store_at n t buffer waits k m u first.0 same first.1 in
@@ -166,14 +171,16 @@ module _ (order : Order) (n t : ℕ) (buffer : List Entry) (waits : List Waiting
           store = found.0;
           is = place_number first.0 first.1;
           waits_there = found.1;
-          passes = passes_all n t buffer waits k m u a first.0 found.0 same first.1 found.1 refl (subst (λ x. IsLocation x found.0.place) address found.2.location) first.2;
+          passes = passes_all n t buffer waits k m u a first.0 found.0 same first.1 found.1 refl
+              (subst (λ x. IsLocation x found.0.place) address found.2.location) first.2;
           has = tt;
         }
 
     pub place_waits : MayDrain Pso (Some place) waits None → WaitsFirst buffer (oldest_of buffer a)
     place_waits may =
         let k = oldest_of buffer a in
-        let number : k ≡ may.number = sym (oldest_number a place is n t buffer waits m u same) ∙ found_at (nat_lt (position_or_len (λ (w : WaitingStore). is_place place w.place) waits) (length waits)) _ may.number may.is in
+        let number : k ≡ may.number = sym (oldest_number a place is n t buffer waits m u same)
+        ∙ found_at (nat_lt (position_or_len (λ (w : WaitingStore). is_place place w.place) waits) (length waits)) _ may.number may.is in
         let there = subst (λ i. slice_get waits i ≡ Some may.store) (sym number) may.waits_there in
         let passes = subst (λ i. AllByRecursion (λ older. keeps_back Pso may.store older ≡ false) (take i waits)) (sym number) may.passes in
         let found = entry_at n t buffer waits k m u may.store same there in
@@ -184,7 +191,8 @@ pub oldest_address : (buffer : List Entry) (a : ℕ) (e : Entry) → slice_get b
 oldest_address [] a e read = absurd cc
 oldest_address (f ∷ buffer) a e read = elim (cases_eq f.a a) [
   | inl here ↦
-      let first : slice_get (f ∷ buffer) 0 ≡ Some e = subst (λ b. slice_get (f ∷ buffer) (cond b 0 (suc (oldest_of buffer a))) ≡ Some e) (eq-eqb f.a a here) read in
+      let first : slice_get (f ∷ buffer) 0 ≡ Some e =
+      subst (λ b. slice_get (f ∷ buffer) (cond b 0 (suc (oldest_of buffer a))) ≡ Some e) (eq-eqb f.a a here) read in
       let one : f ≡ e = cc in
       subst (λ (x : Entry). x.a ≡ a) one here
   | inr other ↦ oldest_address buffer a e (subst (λ b. slice_get (f ∷ buffer) (cond b 0 (suc (oldest_of buffer a))) ≡ Some e) (ne_eqb f.a a other) read)

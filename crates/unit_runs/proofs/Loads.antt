@@ -40,29 +40,37 @@ store_seen a e w is here =
     ap (λ n. Some (get_or (parts_from n (cells_of n) w.value) (a - w.place.address) 0)) is.location.width
     ∙ ap (λ n. Some (get_or (w.value ∷ []) n 0)) first ∙ ap Some is.value
 
-newest_next : (memory : Memory) (a : ℕ) (e : Entry) (w : WaitingStore) (o : Option WaitingStore) (v : ℕ) → IsSameStore e w → value_seen (seen_before memory a o) ≡ Some v →
+newest_next : (memory : Memory) (a : ℕ) (e : Entry) (w : WaitingStore) (o : Option WaitingStore) (v : ℕ) → IsSameStore e w →
+    value_seen (seen_before memory a o) ≡ Some v →
     value_seen (seen_before memory a (cond (covers w.place a) (Some w) o)) ≡ Some (cond (e.a == a) e.v v)
 newest_next memory a e w o v is before = elim (cases_eq e.a a) [
   | inl here ↦
       let test : (e.a == a) ≡ true = eq-eqb e.a a here in
-      ap (λ b. value_seen (seen_before memory a (cond b (Some w) o))) (covers_one e.a a w.place is.location ∙ test) ∙ store_seen a e w is here ∙ ap (λ b. Some (cond b e.v v)) (sym test)
+      ap (λ b. value_seen (seen_before memory a (cond b (Some w) o))) (covers_one e.a a w.place is.location ∙ test) ∙ store_seen a e w is here
+      ∙ ap (λ b. Some (cond b e.v v)) (sym test)
   | inr other ↦
       let test : (e.a == a) ≡ false = ne_eqb e.a a other in
-      ap (λ b. value_seen (seen_before memory a (cond b (Some w) o))) (covers_one e.a a w.place is.location ∙ test) ∙ before ∙ ap (λ b. Some (cond b e.v v)) (sym test)
+      ap (λ b. value_seen (seen_before memory a (cond b (Some w) o))) (covers_one e.a a w.place is.location ∙ test) ∙ before
+      ∙ ap (λ b. Some (cond b e.v v)) (sym test)
 ]
 
-newest_seen : (memory : Memory) (a n t : ℕ) (buffer : List Entry) (waits : List WaitingStore) (m u : ℕ) (o : Option WaitingStore) (v : ℕ) → AreSameStores n t buffer waits m u →
+newest_seen : (memory : Memory) (a n t : ℕ) (buffer : List Entry) (waits : List WaitingStore) (m u : ℕ) (o : Option WaitingStore) (v : ℕ) →
+    AreSameStores n t buffer waits m u →
     value_seen (seen_before memory a o) ≡ Some v → value_seen (seen_before memory a (newest_over waits a o)) ≡ Some (newest buffer a v)
 newest_seen memory a n t [] [] m u o v same before = before
 newest_seen memory a n t [] (w ∷ waits) m u o v same before = absurd same
 newest_seen memory a n t (e ∷ buffer) [] m u o v same before = absurd same
 newest_seen memory a n t (e ∷ buffer) (w ∷ waits) m u o v same before =
-    newest_seen memory a e.stbars w.stbar buffer waits m u (cond (covers w.place a) (Some w) o) (cond (e.a == a) e.v v) same.2 (newest_next memory a e w o v same.1 before)
+    newest_seen memory a e.stbars w.stbar buffer waits m u (cond (covers w.place a) (Some w) o) (cond (e.a == a) e.v v) same.2
+    (newest_next memory a e w o v same.1 before)
 
 -- what is read at the location of an address
-pub same_read : (memory : Memory) (a : ℕ) (place : Place) (n t : ℕ) (buffer : List Entry) (waits : List WaitingStore) (m u v : ℕ) → IsLocation a place → AreSameStores n t buffer waits m u →
+pub same_read : (memory : Memory) (a : ℕ) (place : Place) (n t : ℕ) (buffer : List Entry) (waits : List WaitingStore) (m u v : ℕ) → IsLocation a place →
+    AreSameStores n t buffer waits m u →
     value_seen (seen_in (memory a)) ≡ Some v → read_in place (sees memory waits) ≡ Some (newest buffer a v)
-same_read memory a place n t buffer waits m u v is same has = location_read a place (sees memory waits) is ∙ newest_seen memory a n t buffer waits m u None v same has
+same_read memory a place n t buffer waits m u v is same has =
+    location_read a place (sees memory waits) is
+    ∙ newest_seen memory a n t buffer waits m u None v same has
 
 -- where something is read, a load reads that and nothing else
 pub read_exactly : (place : Place) (look : ℕ → Option CellContent) (has v : ℕ) → read_in place look ≡ Some has → IsRead place look v ↔ (v ≡ has)

@@ -64,16 +64,19 @@ moment-admitted line s p r moment = record {
   stbars = moment.stbars;
   memory = moment.memory;
   matched = λ q small.
-      subst (λ (x : ProcessorState). IsMatched line (buffer_of s q) x.waits (stbars_of s q) x.stbar) (sym (idle_after r.processors (suc p - length r.processors) q)) (moment.matched q small);
+      subst (λ (x : ProcessorState). IsMatched line (buffer_of s q) x.waits (stbars_of s q) x.stbar)
+      (sym (idle_after r.processors (suc p - length r.processors) q)) (moment.matched q small);
 }
 
-pub matched-equal : (line : ℕ) (buffer other_buffer : List Entry) (waits others : List WaitingStore) (m n u t : ℕ) → buffer ≡ other_buffer → waits ≡ others → m ≡ n → u ≡ t →
+pub matched-equal : (line : ℕ) (buffer other_buffer : List Entry) (waits others : List WaitingStore) (m n u t : ℕ) → buffer ≡ other_buffer →
+    waits ≡ others → m ≡ n → u ≡ t →
     IsMatched line other_buffer others n t → IsMatched line buffer waits m u
 matched-equal line buffer other_buffer waits others m n u t one two three four matched =
     subst (λ x. IsMatched line x waits m u) (sym one) (subst (λ x. IsMatched line other_buffer x m u) (sym two)
     (subst (λ x. IsMatched line other_buffer others x u) (sym three) (subst (λ x. IsMatched line other_buffer others n x) (sym four) matched)))
 
-pub matched-later : (line : ℕ) (buffer : List Entry) (waits : List WaitingStore) (m u : ℕ) → IsMatched line buffer waits m u → IsMatched (suc line) buffer waits m u
+pub matched-later : (line : ℕ) (buffer : List Entry) (waits : List WaitingStore) (m u : ℕ) → IsMatched line buffer waits m u →
+    IsMatched (suc line) buffer waits m u
 matched-later line buffer waits m u matched = (matched.0, let before = matched.1 in omega (arith, before))
 
 -- of two states and those after them, the buffers of a processor and its STBARs are as they were
@@ -84,7 +87,8 @@ pub record IsKept (s next : State) (r new : MachineState) (q : ℕ) : Type 0 whe
   pub line : (processor_in new q).stbar ≡ (processor_in r q).stbar
 
 -- one processor has changed
-pub matched-all : (line : ℕ) (s next : State) (r new : MachineState) (p : ℕ) → IsMoment line s r → IsMatchedAt (suc line) next new p → ((q : ℕ) → (q ≡ p → ⊥) → IsKept s next r new q) →
+pub matched-all : (line : ℕ) (s next : State) (r new : MachineState) (p : ℕ) → IsMoment line s r → IsMatchedAt (suc line) next new p → ((q : ℕ) → (q ≡ p →
+    ⊥) → IsKept s next r new q) →
     (q : ℕ) → q < 16 → IsMatchedAt (suc line) next new q
 matched-all line s next r new p moment own others q small = elim (cases_eq q p) [
   | inl same ↦ subst (λ k. IsMatchedAt (suc line) next new k) (sym same) own
@@ -95,19 +99,22 @@ matched-all line s next r new p moment own others q small = elim (cases_eq q p) 
 
 -- ---- stores that reach memory
 
-unreserved_same : (b : Bool) (place : Place) (by : Taken) (x : ProcessorState) → ((cond b x (without_reserved place by x)).waits ≡ x.waits) × ((cond b x (without_reserved place by x)).stbar ≡ x.stbar)
+unreserved_same : (b : Bool) (place : Place) (by : Taken) (x : ProcessorState) →
+    ((cond b x (without_reserved place by x)).waits ≡ x.waits) × ((cond b x (without_reserved place by x)).stbar ≡ x.stbar)
 unreserved_same true place by x = (refl, refl)
 unreserved_same false place by x = (refl, refl)
 
 -- a store that reaches memory changes no buffer
 pub reached_same : (p : ℕ) (place : Place) (by : Taken) (i : ℕ) (xs : List ProcessorState) (q : ℕ) →
-    ((get_or (processors_after p place by i xs) q idle).waits ≡ (get_or xs q idle).waits) × ((get_or (processors_after p place by i xs) q idle).stbar ≡ (get_or xs q idle).stbar)
+    ((get_or (processors_after p place by i xs) q idle).waits ≡ (get_or xs q idle).waits) ×
+    ((get_or (processors_after p place by i xs) q idle).stbar ≡ (get_or xs q idle).stbar)
 reached_same p place by i [] q = (refl, refl)
 reached_same p place by i (x ∷ xs) zero = unreserved_same (i == p) place by x
 reached_same p place by i (x ∷ xs) (suc q) = reached_same p place by (suc i) xs q
 
 cell_holds : (r : MachineState) (b : ℕ) (cell : Cell) (v : ℕ) (memory : List ℕ) → length memory ≡ 256 → b < 256 → value_seen (seen_in cell) ≡ Some v →
-    ((a : ℕ) → a < 256 → Holds r a (slice_index memory a)) → (a : ℕ) → a < 256 → value_seen (seen_in (with_cell r.memory b cell a)) ≡ Some (slice_index (set memory b v) a)
+    ((a : ℕ) → a < 256 → Holds r a (slice_index memory a)) → (a : ℕ) → a < 256 →
+    value_seen (seen_in (with_cell r.memory b cell a)) ≡ Some (slice_index (set memory b v) a)
 cell_holds r b cell v memory words within is before a small = elim (cases_eq b a) [
   | inl same ↦
       ap (λ t. value_seen (seen_in (cond t cell (r.memory a)))) (eq-eqb b a same) ∙ is
@@ -118,11 +125,15 @@ cell_holds r b cell v memory words within is before a small = elim (cases_eq b a
 ]
 
 -- what is written to a location is written into its one cell
-pub filled_one : (memory : Memory) (b : ℕ) (place : Place) (cell : ℕ → Cell) (v : ℕ) → IsLocation b place → filled memory place.address (map cell (cell_parts place v)) ≡ with_cell memory b (cell v)
-filled_one memory b place cell v is = ap (λ n. filled memory place.address (map cell (parts_from n (cells_of n) v))) is.width ∙ ap (λ n. with_cell memory n (cell v)) is.address
+pub filled_one : (memory : Memory) (b : ℕ) (place : Place) (cell : ℕ → Cell) (v : ℕ) → IsLocation b place →
+    filled memory place.address (map cell (cell_parts place v)) ≡ with_cell memory b (cell v)
+filled_one memory b place cell v is =
+    ap (λ n. filled memory place.address (map cell (parts_from n (cells_of n) v))) is.width
+    ∙ ap (λ n. with_cell memory n (cell v)) is.address
 
 -- a store to a location that reaches memory
-pub reached_holds : (line p : ℕ) (w : WaitingStore) (r : MachineState) (b v : ℕ) (memory : List ℕ) → IsLocation b w.place → w.value ≡ v → length memory ≡ 256 → b < 256 →
+pub reached_holds : (line p : ℕ) (w : WaitingStore) (r : MachineState) (b v : ℕ) (memory : List ℕ) → IsLocation b w.place → w.value ≡ v →
+    length memory ≡ 256 → b < 256 →
     ((a : ℕ) → a < 256 → Holds r a (slice_index memory a)) → (a : ℕ) → a < 256 → Holds (reaching line p w r) a (slice_index (set memory b v) a)
 reached_holds line p w r b v memory is value words within before a small =
     ap (λ m. value_seen (seen_in (m a))) (filled_one r.memory b w.place _ w.value is)

@@ -49,19 +49,26 @@ module _ (order : Order) (places : ℕ → Place) (located : AreLocations places
         let within = drained_within p a e allowed.0 read in (
           (allowed.0, within, allowed.1),
           subst (λ o. MayDrain o (Some (places a)) (waits_of r p) None) (sym allowed.1)
-              (place_drains order 0 0 (buffer_of s p) (waits_of r p) _ _ (stores p allowed.0) a (places a) (located a within) allowed.2 e read (oldest_address (buffer_of s p) a e read)),
+              (place_drains order 0 0 (buffer_of s p) (waits_of r p) _ _ (stores p allowed.0) a (places a) (located a within) allowed.2 e read
+              (oldest_address (buffer_of s p) a e read)),
         ),
     λ both. (
       both.0.0,
       both.0.2,
-      place_waits order 0 0 (buffer_of s p) (waits_of r p) _ _ (stores p both.0.0) a (places a) (located a both.0.1) (subst (λ o. MayDrain o (Some (places a)) (waits_of r p) None) both.0.2 both.1),
+      place_waits order 0 0 (buffer_of s p) (waits_of r p) _ _ (stores p both.0.0) a (places a) (located a both.0.1)
+          (subst (λ o. MayDrain o (Some (places a)) (waits_of r p) None) both.0.2 both.1),
     ),
   )
   step_exactly (Load p a v) =
-      let read : (small : p < 16) (within : a < 256) → _ = λ small within. read_exactly (places a) _ _ v (same_read r.memory a (places a) 0 0 (buffer_of s p) (waits_of r p) _ _ (slice_index s.memory a) (located a within) (stores p small) (moment.memory a within)) in
+      let read : (small : p < 16) (within : a < 256) → _ = λ small within.
+      read_exactly (places a) _ _ v
+      (same_read r.memory a (places a) 0 0 (buffer_of s p) (waits_of r p) _ _ (slice_index s.memory a) (located a within) (stores p small)
+      (moment.memory a within)) in
       (λ allowed. ((allowed.0, allowed.1), (read allowed.0 allowed.1).1 allowed.2), λ both. (both.0.0, both.0.1, (read both.0.0 both.0.1).0 both.1))
   step_exactly (Swap p a v w) =
-      let read : (within : a < 256) → _ = λ within. read_exactly (places a) _ _ v (same_read r.memory a (places a) 0 0 [] [] 0 0 (slice_index s.memory a) (located a within) (inl (refl, refl)) (moment.memory a within)) in (
+      let read : (within : a < 256) → _ = λ within.
+      read_exactly (places a) _ _ v
+      (same_read r.memory a (places a) 0 0 [] [] 0 0 (slice_index s.memory a) (located a within) (inl (refl, refl)) (moment.memory a within)) in (
         λ allowed. ((allowed.0, allowed.1), (none_waits 0 0 (buffer_of s p) (waits_of r p) _ _ (stores p allowed.0) allowed.2, (read allowed.1).1 allowed.3)),
         λ both. (both.0.0, both.0.1, none_buffered 0 0 (buffer_of s p) (waits_of r p) _ _ (stores p both.0.0) both.1.0, (read both.0.1).0 both.1.1),
       )
@@ -100,9 +107,12 @@ module _ (order : Order) (places : ℕ → Place) (located : AreLocations places
           stbars = moment.stbars;
           memory = moment.memory;
           matched = matched-all line s (next s (Store p a v)) r (with_own y) p moment
-              (matched-equal (suc line) _ pushed _ (x.waits ++ w ∷ []) _ (stbars_of s p) _ x.stbar (get_or-set_same s.buffers p pushed [] buffer_there) (ap (λ (z : ProcessorState). z.waits) (own_is y)) refl
-              (ap (λ (z : ProcessorState). z.stbar) (own_is y))
-              (one_pushed 0 0 (buffer_of s p) x.waits e w (record { within = within; location = located a within; value = refl }) (stores p small), (matched-later line _ _ _ _ (moment.matched p small)).1))
+              (matched-equal (suc line) _ pushed _ (x.waits ++ w ∷ []) _ (stbars_of s p) _ x.stbar (get_or-set_same s.buffers p pushed [] buffer_there)
+              (ap (λ (z : ProcessorState). z.waits) (own_is y)) refl
+              (ap (λ (z : ProcessorState). z.stbar) (own_is y)) (
+                one_pushed 0 0 (buffer_of s p) x.waits e w (record { within = within; location = located a within; value = refl }) (stores p small),
+                (matched-later line _ _ _ _ (moment.matched p small)).1,
+              ))
               (λ q other. record {
                 buffer = get_or-set_other s.buffers p q pushed [] other;
                 waits = ap (λ (z : ProcessorState). z.waits) (other_is y q other);
@@ -124,8 +134,11 @@ module _ (order : Order) (places : ℕ → Place) (located : AreLocations places
           memory = moment.memory;
           matched = matched-all line s (next s (Stbar p)) r (with_own y) p moment
               (matched-equal (suc line) _ (buffer_of s p) _ x.waits _ (suc count) _ line refl (ap (λ (z : ProcessorState). z.waits) (own_is y))
-              (get_or-set_same s.stbars p (suc count) 0 (omega (arith, small, moment.stbars))) (ap (λ (z : ProcessorState). z.stbar) (own_is y))
-              (before_more 0 0 (buffer_of s p) x.waits count x.stbar (suc count) line (inr (omega arith, (moment.matched p small).1)) (stores p small), omega arith))
+              (get_or-set_same s.stbars p (suc count) 0 (omega (arith, small, moment.stbars))) (ap (λ (z : ProcessorState). z.stbar) (own_is y)) (
+                before_more 0 0 (buffer_of s p) x.waits count x.stbar (suc count) line
+                    (inr (omega arith, (moment.matched p small).1)) (stores p small),
+                omega arith,
+              ))
               (λ q other. record {
                 buffer = refl;
                 waits = ap (λ (z : ProcessorState). z.waits) (other_is y q other);
@@ -136,7 +149,8 @@ module _ (order : Order) (places : ℕ → Place) (located : AreLocations places
 
     -- a store that waits reaches memory
     drain_reaches : (k : ℕ) (e : Entry) (w : WaitingStore) → IsSameStore e w →
-        IsMoment (suc line) (record s { memory = set s.memory e.a e.v; buffers = set s.buffers p (remove (buffer_of s p) k) }) (reaching line p w (with_waits r p (remove (waits_of r p) k)))
+        IsMoment (suc line) (record s { memory = set s.memory e.a e.v; buffers = set s.buffers p (remove (buffer_of s p) k) })
+        (reaching line p w (with_waits r p (remove (waits_of r p) k)))
     drain_reaches k e w is =
         let x = processor_in r p in
         let rest = remove (buffer_of s p) k in
@@ -165,8 +179,10 @@ module _ (order : Order) (places : ℕ → Place) (located : AreLocations places
     drain_leads at k e read number =
         let found = store_at 0 0 (buffer_of s p) (waits_of r p) k (stbars_of s p) (processor_in r p).stbar e (stores p small) read in
         subst (λ o. IsMoment (suc line) (drained s p k) (option_map_or (λ k. draining line p k r) o r)) (sym number)
-        (subst (λ o. IsMoment (suc line) (drained s p k) (option_map_or (λ (w : WaitingStore). reaching line p w (with_waits r p (remove (waits_of r p) k))) o r)) (sym found.1)
-        (subst (λ o. IsMoment (suc line) (written s p o (remove (buffer_of s p) k)) (reaching line p found.0 (with_waits r p (remove (waits_of r p) k)))) (sym read) (drain_reaches k e found.0 found.2)))
+        (subst (λ o. IsMoment (suc line) (drained s p k)
+        (option_map_or (λ (w : WaitingStore). reaching line p w (with_waits r p (remove (waits_of r p) k))) o r)) (sym found.1)
+        (subst (λ o. IsMoment (suc line) (written s p o (remove (buffer_of s p) k)) (reaching line p found.0 (with_waits r p (remove (waits_of r p) k))))
+        (sym read) (drain_reaches k e found.0 found.2)))
 
     -- a swap
     swap_leads : (a v w : ℕ) → a < 256 → IsMoment (suc line) (next s (Swap p a v w)) (storing line p (places a) w r)
@@ -178,7 +194,9 @@ module _ (order : Order) (places : ℕ → Place) (located : AreLocations places
           buffers = moment.buffers;
           stbars = moment.stbars;
           memory = reached_holds line p x r a w s.memory (located a within) refl moment.words within moment.memory;
-          matched = λ q low. matched-equal (suc line) (buffer_of s q) (buffer_of s q) _ (waits_of r q) (stbars_of s q) (stbars_of s q) _ (processor_in r q).stbar refl (kept q).0 refl (kept q).1
+          matched = λ q low.
+              matched-equal (suc line) (buffer_of s q) (buffer_of s q) _ (waits_of r q) (stbars_of s q) (stbars_of s q) _ (processor_in r q).stbar
+              refl (kept q).0 refl (kept q).1
               (matched-later line _ _ _ _ (moment.matched q low));
         }
 
@@ -191,7 +209,8 @@ module _ (order : Order) (places : ℕ → Place) (located : AreLocations places
     matched = λ q small. matched-later line _ _ _ _ (moment.matched q small);
   }
 
-  pub step_moves : (step : Step) → proc_of step < length r.processors → IsAllowed order s step → IsMoment (suc line) (next s step) (next_state line (proc_of step) (run_step_of places step) r)
+  pub step_moves : (step : Step) → proc_of step < length r.processors → IsAllowed order s step →
+      IsMoment (suc line) (next s step) (next_state line (proc_of step) (run_step_of places step) r)
   step_moves (Store p a v) there allowed = store_leads p allowed.0 there a v allowed.1
   step_moves (Drain p) there allowed =
       let e = allowed.1.0 in
@@ -223,22 +242,26 @@ module _ (order : Order) (places : ℕ → Place) (located : AreLocations places
       let p = proc_of step in
       let from = admitted p r in
       let exactly = step_exactly order places located line s from (moment-admitted line s p r moment) step in
-      let rest = λ (allowed : IsAllowed order s step). run_exactly (suc line) (next s step) (next_state line p (run_step_of places step) from) steps (next_moment line s r step moment allowed) in (
+      let rest = λ (allowed : IsAllowed order s step).
+      run_exactly (suc line) (next s step) (next_state line p (run_step_of places step) from) steps (next_moment line s r step moment allowed) in (
         λ run. let now = exactly.0 run.0 in let later = (rest run.0).0 run.1 in ((now.0, later.0), (now.1, later.1)),
         λ both. let allowed = exactly.1 (both.0.0, both.1.0) in (allowed, (rest allowed).1 (both.0.1, both.1.1)),
       )
 
-  run_leads : (line : ℕ) (s : State) (r : MachineState) (steps : List Step) → IsMoment line s r → IsRunFrom order s steps → IsSameState (after s steps) (state_after r (lines_of places line steps))
+  run_leads : (line : ℕ) (s : State) (r : MachineState) (steps : List Step) → IsMoment line s r → IsRunFrom order s steps →
+      IsSameState (after s steps) (state_after r (lines_of places line steps))
   run_leads line s r [] moment run = same_state line s r moment
   run_leads line s r (step ∷ steps) moment run =
       let p = proc_of step in
       let from = admitted p r in
       let may = ((step_exactly order places located line s from (moment-admitted line s p r moment) step).0 run.0).1 in
-      subst (λ t. IsSameState (after (next s step) steps) (state_after t (lines_of places (suc line) steps))) (sym (step_leads order line p (run_step_of places step) from may))
+      subst (λ t. IsSameState (after (next s step) steps) (state_after t (lines_of places (suc line) steps)))
+      (sym (step_leads order line p (run_step_of places step) from may))
       (run_leads (suc line) (next s step) (next_state line p (run_step_of places step) from) steps (next_moment line s r step moment run.0) run.1)
 
 -- the two machines begin in the same state
-first_moment : (memory : List ℕ) (start : MachineState) (number : ℕ) → length memory ≡ 256 → IsStartOf memory start → 0 < number → IsMoment number (first_state memory) start
+first_moment : (memory : List ℕ) (start : MachineState) (number : ℕ) → length memory ≡ 256 → IsStartOf memory start → 0 < number →
+    IsMoment number (first_state memory) start
 first_moment memory start number words begins after_none =
     let none : (p : ℕ) → processor_in start p ≡ idle = λ p. ap (λ xs. get_or xs p idle) begins.processors in
     record {

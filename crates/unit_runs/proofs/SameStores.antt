@@ -26,14 +26,16 @@ counts_rise n t m u (inl same) = omega (arith, same.0)
 counts_rise n t m u (inr later) = omega (arith, later.0)
 
 -- behind fewer STBARs
-pub behind_fewer : (k v n t : ℕ) (buffer : List Entry) (waits : List WaitingStore) (m u : ℕ) → AreNoLater k v n t → AreSameStores n t buffer waits m u → AreSameStores k v buffer waits m u
+pub behind_fewer : (k v n t : ℕ) (buffer : List Entry) (waits : List WaitingStore) (m u : ℕ) → AreNoLater k v n t → AreSameStores n t buffer waits m u →
+    AreSameStores k v buffer waits m u
 behind_fewer k v n t [] [] m u fewer same = no_later-then k v n t m u fewer same
 behind_fewer k v n t [] (w ∷ waits) m u fewer same = absurd same
 behind_fewer k v n t (e ∷ buffer) [] m u fewer same = absurd same
 behind_fewer k v n t (e ∷ buffer) (w ∷ waits) m u fewer same = (no_later-then k v n t e.stbars w.stbar fewer same.0, same.1, same.2)
 
 -- another STBAR after them
-pub before_more : (n t : ℕ) (buffer : List Entry) (waits : List WaitingStore) (m u k v : ℕ) → AreNoLater m u k v → AreSameStores n t buffer waits m u → AreSameStores n t buffer waits k v
+pub before_more : (n t : ℕ) (buffer : List Entry) (waits : List WaitingStore) (m u k v : ℕ) → AreNoLater m u k v → AreSameStores n t buffer waits m u →
+    AreSameStores n t buffer waits k v
 before_more n t [] [] m u k v more same = no_later-then n t m u k v same more
 before_more n t [] (w ∷ waits) m u k v more same = absurd same
 before_more n t (e ∷ buffer) [] m u k v more same = absurd same
@@ -48,7 +50,8 @@ one_pushed n t (f ∷ buffer) [] e w is same = absurd same
 one_pushed n t (f ∷ buffer) (x ∷ waits) e w is same = (same.0, same.1, one_pushed f.stbars x.stbar buffer waits e w is same.2)
 
 -- one of them leaves
-pub one_removed : (n t : ℕ) (buffer : List Entry) (waits : List WaitingStore) (k m u : ℕ) → AreSameStores n t buffer waits m u → AreSameStores n t (remove buffer k) (remove waits k) m u
+pub one_removed : (n t : ℕ) (buffer : List Entry) (waits : List WaitingStore) (k m u : ℕ) → AreSameStores n t buffer waits m u →
+    AreSameStores n t (remove buffer k) (remove waits k) m u
 one_removed n t [] [] zero m u same = same
 one_removed n t [] [] (suc k) m u same = same
 one_removed n t [] (w ∷ waits) k m u same = absurd same
@@ -74,7 +77,8 @@ none_buffered n t (e ∷ buffer) [] m u same none = absurd same
 none_buffered n t buffer (w ∷ waits) m u same none = absurd cc
 
 -- the store of an entry
-pub store_at : (n t : ℕ) (buffer : List Entry) (waits : List WaitingStore) (k m u : ℕ) (e : Entry) → AreSameStores n t buffer waits m u → slice_get buffer k ≡ Some e →
+pub store_at : (n t : ℕ) (buffer : List Entry) (waits : List WaitingStore) (k m u : ℕ) (e : Entry) → AreSameStores n t buffer waits m u →
+    slice_get buffer k ≡ Some e →
     (w : WaitingStore) × (slice_get waits k ≡ Some w) × IsSameStore e w × AreNoLater n t e.stbars w.stbar
 store_at n t [] waits k m u e same read = absurd cc
 store_at n t (f ∷ buffer) [] k m u e same read = absurd same
@@ -85,12 +89,14 @@ store_at n t (f ∷ buffer) (w ∷ waits) (suc k) m u e same read =
     (rest.0, rest.1, rest.2, no_later-then n t f.stbars w.stbar e.stbars rest.0.stbar same.0 rest.3)
 
 -- the entry of a store
-pub entry_at : (n t : ℕ) (buffer : List Entry) (waits : List WaitingStore) (k m u : ℕ) (w : WaitingStore) → AreSameStores n t buffer waits m u → slice_get waits k ≡ Some w →
+pub entry_at : (n t : ℕ) (buffer : List Entry) (waits : List WaitingStore) (k m u : ℕ) (w : WaitingStore) → AreSameStores n t buffer waits m u →
+    slice_get waits k ≡ Some w →
     (e : Entry) × (slice_get buffer k ≡ Some e) × IsSameStore e w × AreNoLater n t e.stbars w.stbar
 entry_at n t buffer [] k m u w same read = absurd cc
 entry_at n t [] (x ∷ waits) k m u w same read = absurd same
 entry_at n t (e ∷ buffer) (x ∷ waits) zero m u w same read =
-    let one : x ≡ w = cc in (e, refl, subst (λ (y : WaitingStore). IsSameStore e y) one same.1, subst (λ (y : WaitingStore). AreNoLater n t e.stbars y.stbar) one same.0)
+    let one : x ≡ w = cc in
+    (e, refl, subst (λ (y : WaitingStore). IsSameStore e y) one same.1, subst (λ (y : WaitingStore). AreNoLater n t e.stbars y.stbar) one same.0)
 entry_at n t (e ∷ buffer) (x ∷ waits) (suc k) m u w same read =
     let rest = entry_at e.stbars x.stbar buffer waits k m u w same.2 read in
     (rest.0, rest.1, rest.2, no_later-then n t e.stbars x.stbar rest.0.stbars w.stbar same.0 rest.3)

@@ -26,7 +26,9 @@ module _ (places : ℕ → Place) (located : AreLocations places) where
   preset_here a v s small = ap (λ m. m a) (filled_one s.memory a (places a) _ v (located a small)) ∙ ap (λ t. cond t (First v) (s.memory a)) (eq-eqb a a refl)
 
   preset_other : (a v b : ℕ) (s : MachineState) → a < 256 → (a ≡ b → ⊥) → (presetting (places a) v s).memory b ≡ s.memory b
-  preset_other a v b s small other = ap (λ m. m b) (filled_one s.memory a (places a) _ v (located a small)) ∙ ap (λ t. cond t (First v) (s.memory b)) (ne_eqb a b other)
+  preset_other a v b s small other =
+      ap (λ m. m b) (filled_one s.memory a (places a) _ v (located a small))
+      ∙ ap (λ t. cond t (First v) (s.memory b)) (ne_eqb a b other)
 
   -- first values from an address on leave those before it
   preset_before : (a : ℕ) (values : List ℕ) (s : MachineState) (b : ℕ) → a + length values ≤ 256 → b < a → (preset_from places a values s).memory b ≡ s.memory b
@@ -35,7 +37,8 @@ module _ (places : ℕ → Place) (located : AreLocations places) where
       preset_before (suc a) values (presetting (places a) v s) b (omega (arith, all)) (omega (arith, before))
       ∙ preset_other a v b s (omega (arith, all)) (λ same. omega (arith, same, before))
 
-  preset_at : (a : ℕ) (values : List ℕ) (s : MachineState) (i : ℕ) → a + length values ≤ 256 → i < length values → (preset_from places a values s).memory (a + i) ≡ First (slice_index values i)
+  preset_at : (a : ℕ) (values : List ℕ) (s : MachineState) (i : ℕ) → a + length values ≤ 256 → i < length values →
+      (preset_from places a values s).memory (a + i) ≡ First (slice_index values i)
   preset_at a [] s i all within = absurd (omega (arith, within))
   preset_at a (v ∷ values) s zero all within =
       let here : a ≡ a + 0 = omega arith in
