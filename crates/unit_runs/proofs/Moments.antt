@@ -14,7 +14,7 @@ use Rattle.run_steps.specs.Places.{cell_parts, parts_from}
 use Rattle.run_steps.specs.Reads.{Memory, filled, seen_in, with_cell}
 use Rattle.run_steps.specs.Widths.{cells_of}
 use Rattle.unit_runs.specs.Lines.{IsLocation}
-use Rattle.unit_runs.specs.States.{AreSameStores, Holds, IsSameState}
+use Rattle.unit_runs.specs.States.{AreSameStores, HoldsValue, IsSameState}
 use Rattle.unit_runs.proofs.Loads.{value_seen}
 
 -- the buffers have the same stores, and no STBAR stands at this line or later
@@ -29,7 +29,7 @@ pub record IsMoment (line : ℕ) (s : State) (r : MachineState) : Type 0 where
   pub words : length s.memory ≡ 256
   pub buffers : length s.buffers ≡ 16
   pub stbars : length s.stbars ≡ 16
-  pub memory : (a : ℕ) → a < 256 → Holds r a (slice_index s.memory a)
+  pub memory : (a : ℕ) → a < 256 → HoldsValue r a (slice_index s.memory a)
   pub matched : (p : ℕ) → p < 16 → IsMatchedAt line s r p
 
 pub same_state : (line : ℕ) (s : State) (r : MachineState) → IsMoment line s r → IsSameState s r
@@ -113,7 +113,7 @@ reached_same p place by i (x ∷ xs) zero = unreserved_same (i == p) place by x
 reached_same p place by i (x ∷ xs) (suc q) = reached_same p place by (suc i) xs q
 
 cell_holds : (r : MachineState) (b : ℕ) (cell : Cell) (v : ℕ) (memory : List ℕ) → length memory ≡ 256 → b < 256 → value_seen (seen_in cell) ≡ Some v →
-    ((a : ℕ) → a < 256 → Holds r a (slice_index memory a)) → (a : ℕ) → a < 256 →
+    ((a : ℕ) → a < 256 → HoldsValue r a (slice_index memory a)) → (a : ℕ) → a < 256 →
     value_seen (seen_in (with_cell r.memory b cell a)) ≡ Some (slice_index (set memory b v) a)
 cell_holds r b cell v memory words within is before a small = elim (cases_eq b a) [
   | inl same ↦
@@ -134,7 +134,7 @@ filled_one memory b place cell v is =
 -- a store to a location that reaches memory
 pub reached_holds : (line p : ℕ) (w : WaitingStore) (r : MachineState) (b v : ℕ) (memory : List ℕ) → IsLocation b w.place → w.value ≡ v →
     length memory ≡ 256 → b < 256 →
-    ((a : ℕ) → a < 256 → Holds r a (slice_index memory a)) → (a : ℕ) → a < 256 → Holds (reaching line p w r) a (slice_index (set memory b v) a)
+    ((a : ℕ) → a < 256 → HoldsValue r a (slice_index memory a)) → (a : ℕ) → a < 256 → HoldsValue (reaching line p w r) a (slice_index (set memory b v) a)
 reached_holds line p w r b v memory is value words within before a small =
     ap (λ m. value_seen (seen_in (m a))) (filled_one r.memory b w.place _ w.value is)
     ∙ cell_holds r b (Stored w.value w.store line) v memory words within (ap Some value) before a small

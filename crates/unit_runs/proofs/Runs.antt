@@ -16,7 +16,7 @@ use Rattle.run_steps.specs.Reads.{seen_in}
 use Rattle.run_steps.specs.Runs.{HoldsFrom, state_after}
 use Rattle.run_steps.specs.Steps.{MayDrain, MayStep}
 use Rattle.run_steps.proofs.StepFacts.{step_leads}
-use Rattle.unit_runs.specs.Lines.{AreLocations, IsStartOf, IsWithin, lines_of, run_step_of}
+use Rattle.unit_runs.specs.Lines.{AreLocations, IsStartOf, IsWithin, lines_of_steps, run_step_of}
 use Rattle.unit_runs.specs.States.{AreSameStores, IsSameState, IsSameStore}
 use Rattle.unit_runs.proofs.SameStores.{before_more, none_buffered, none_waits, one_pushed, one_removed, store_at}
 use Rattle.unit_runs.proofs.Drains.{first_drains, first_number, first_waits, oldest_address, place_drains, place_number, place_waits}
@@ -236,7 +236,7 @@ module _ (order : Order) (places : ℕ → Place) (located : AreLocations places
       step_moves order places located line s (admitted p r) (moment-admitted line s p r moment) step (has_place p r) allowed
 
   run_exactly : (line : ℕ) (s : State) (r : MachineState) (steps : List Step) → IsMoment line s r →
-      IsRunFrom order s steps ↔ (AllByRecursion (IsWithin order) steps × HoldsFrom order r (lines_of places line steps))
+      IsRunFrom order s steps ↔ (AllByRecursion (IsWithin order) steps × HoldsFrom order r (lines_of_steps places line steps))
   run_exactly line s r [] moment = (λ run. (tt, tt), λ both. tt)
   run_exactly line s r (step ∷ steps) moment =
       let p = proc_of step in
@@ -249,13 +249,13 @@ module _ (order : Order) (places : ℕ → Place) (located : AreLocations places
       )
 
   run_leads : (line : ℕ) (s : State) (r : MachineState) (steps : List Step) → IsMoment line s r → IsRunFrom order s steps →
-      IsSameState (after s steps) (state_after r (lines_of places line steps))
+      IsSameState (after s steps) (state_after r (lines_of_steps places line steps))
   run_leads line s r [] moment run = same_state line s r moment
   run_leads line s r (step ∷ steps) moment run =
       let p = proc_of step in
       let from = admitted p r in
       let may = ((step_exactly order places located line s from (moment-admitted line s p r moment) step).0 run.0).1 in
-      subst (λ t. IsSameState (after (next s step) steps) (state_after t (lines_of places (suc line) steps)))
+      subst (λ t. IsSameState (after (next s step) steps) (state_after t (lines_of_steps places (suc line) steps)))
       (sym (step_leads order line p (run_step_of places step) from may))
       (run_leads (suc line) (next s step) (next_state line p (run_step_of places step) from) steps (next_moment line s r step moment run.0) run.1)
 
@@ -276,13 +276,13 @@ first_moment memory start number words begins after_none =
 
 pub exactly : (order : Order) (places : ℕ → Place) (memory : List ℕ) (start : MachineState) (number : ℕ) (steps : List Step) →
     AreLocations places → length memory ≡ 256 → IsStartOf memory start → 0 < number →
-    IsRun order memory steps ↔ (AllByRecursion (IsWithin order) steps × HoldsFrom order start (lines_of places number steps))
+    IsRun order memory steps ↔ (AllByRecursion (IsWithin order) steps × HoldsFrom order start (lines_of_steps places number steps))
 exactly order places memory start number steps located words begins after_none =
     run_exactly order places located number (first_state memory) start steps (first_moment memory start number words begins after_none)
 
 pub same_after : (order : Order) (places : ℕ → Place) (memory : List ℕ) (start : MachineState) (number : ℕ) (steps later : List Step) →
     AreLocations places → length memory ≡ 256 → IsStartOf memory start → 0 < number → IsRun order memory (steps ++ later) →
-    IsSameState (after (first_state memory) steps) (state_after start (lines_of places number steps))
+    IsSameState (after (first_state memory) steps) (state_after start (lines_of_steps places number steps))
 same_after order places memory start number steps later located words begins after_none run =
     run_leads order places located number (first_state memory) start steps (first_moment memory start number words begins after_none)
     (run_parts order (first_state memory) steps later run).0

@@ -32,10 +32,10 @@ run_step_of places (Membar p) = run.Membar
 run_step_of places (Stbar p) = run.Stbar
 
 -- one line for each step, numbered one after the other from this number on
-abbrev pub lines_of : (ℕ → Place) → ℕ → List Step → List RunLine
-lines_of places number [] = []
-lines_of places number (step ∷ steps) =
-    record { number = number; processor = proc_of step; step = run_step_of places step } ∷ lines_of places (suc number) steps
+abbrev pub lines_of_steps : (ℕ → Place) → ℕ → List Step → List RunLine
+lines_of_steps places number [] = []
+lines_of_steps places number (step ∷ steps) =
+    record { number = number; processor = proc_of step; step = run_step_of places step } ∷ lines_of_steps places (suc number) steps
 
 -- The unit has the processor and the address, and its memory model has the step: PSO alone has drains that name an address.
 abbrev pub IsWithin : Order → Step → Type 0

@@ -26,10 +26,10 @@ AreSameStores n t (e ∷ buffer) [] m u = ⊥
 AreSameStores n t (e ∷ buffer) (w ∷ waits) m u = AreNoLater n t e.stbars w.stbar × IsSameStore e w × AreSameStores e.stbars w.stbar buffer waits m u
 
 -- what memory holds at the address is known, and is this
-abbrev pub Holds : MachineState → ℕ → ℕ → Type 0
-Holds r a v = option_map (λ (x : CellContent). x.value) (seen_in (r.memory a)) ≡ Some v
+abbrev pub HoldsValue : MachineState → ℕ → ℕ → Type 0
+HoldsValue r a v = option_map (λ (x : CellContent). x.value) (seen_in (r.memory a)) ≡ Some v
 
 -- Memory has the same values, and of each of 16 processors the same stores wait, in the same order.
 pub record IsSameState (s : State) (r : MachineState) : Type 0 where
-  pub memory : (a : ℕ) → a < 256 → Holds r a (slice_index s.memory a)
+  pub memory : (a : ℕ) → a < 256 → HoldsValue r a (slice_index s.memory a)
   pub stores : (p : ℕ) → p < 16 → AreSameStores 0 0 (buffer_of s p) (waits_of r p) (stbars_of s p) (processor_in r p).stbar
