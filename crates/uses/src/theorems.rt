@@ -6,6 +6,7 @@ use completeness::outcomes::outcomes_are_consistent_traces;
 use completeness::runs::consistent_traces_have_runs;
 use embedding::laws::complete_runs_have_orders;
 use order_paths::laws::edge_is_path;
+use unit_runs::laws::unit_runs_are_runs;
 
 /// A law of each crate.
 pub fn cite_the_theorems() {
@@ -15,4 +16,5 @@ pub fn cite_the_theorems() {
     evidence_decides();
     consistent_traces_have_runs();
     outcomes_are_consistent_traces();
+    unit_runs_are_runs();
 }
