@@ -18,7 +18,6 @@ use Rattle.request_options.specs.declared.logs.LogOptions.{LogOptions}
 use Rattle.log_reports.specs.LogReports.{IsLogReportOfReader}
 use Rattle.outcome_reports.specs.Outcomes.{IsOutcomesOfReader}
 use Rattle.run_following.specs.Reports.{IsRunReportOfReader}
-use Rattle.run_following.specs.Words.{run_refused_in_words, run_words}
 use Rattle.request_options.specs.declared.following.FollowOptions.{FollowOptions}
 use Rattle.outcome_reports.specs.SeenTraces.{IsSeenOfReaders}
 use Rattle.request_serving.specs.Batches.{AreTextsOfBatch}
@@ -28,7 +27,7 @@ use Rattle.request_serving.specs.Evidence.{IsReportOfNth}
 use Rattle.run_serving.specs.MadePrograms.{IsMadeText, LeavesMadeText}
 use Rattle.request_texts.specs.NthTraces.{IsWrittenOfNth}
 use Rattle.request_texts.specs.OpenedFiles.{text_bytes}
-use Rattle.request_serving.specs.Presentations.{log_refused_as, logged_as, refused_as, rendered_as}
+use Rattle.request_serving.specs.Presentations.{followed_as, run_refused_in, log_refused_as, logged_as, refused_as, rendered_as}
 use Rattle.request_serving.specs.Reducing.{IsReduced}
 use Rattle.run_serving.specs.Replaying.{IsReplayText}
 use Rattle.run_serving.specs.Running.{IsRunText, IsRunTimesText, LeavesRunTimes}
@@ -131,9 +130,9 @@ EndsWithNotes {X} is_text status_by o status =
 abbrev pub IsLogged : LogOptions → Option (List ℕ) → List ℕ → Answer → Type 0
 IsLogged options remaining text answer = IsLogReportOfReader (logged_as options.form) (log_refused_as options.form) options remaining text answer
 
--- the report on the run that a reader's bytes spell, as far as it is followed, or the line of their refusal
+-- what is said of the run that a reader's bytes spell, as far as it is followed, or of their refusal, in the form that the options name
 abbrev pub IsFollowedRun : FollowOptions → Option (List ℕ) → List ℕ → Answer → Type 0
-IsFollowedRun options remaining text answer = IsRunReportOfReader run_words run_refused_in_words options remaining text answer
+IsFollowedRun options remaining text answer = IsRunReportOfReader (followed_as options) (run_refused_in options.format) options remaining text answer
 
 -- what is said of a log, and beside it notes
 abbrev pub EndsLogged : LogOptions → Option (List ℕ) → Outputs → ℕ → Type 0

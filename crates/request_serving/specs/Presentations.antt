@@ -1,5 +1,5 @@
--- What is said of a trace, by a verdict or a decision on it, of a log, and of an input that is refused, in the form that was asked for.
-use Rattle.std.specs.Prelude.{ℕ, List}
+-- What is said of a trace, by a verdict or a decision on it, of a log, of a run, and of an input that is refused, in the form that was asked for.
+use Rattle.std.specs.Prelude.{ℕ, Bool, List}
 use Rattle.tso_ops.specs.Values.{TraceValue}
 use Rattle.command_line.specs.declared.options.Presentation.{Presentation}
 use Rattle.command_line.specs.declared.options.Presentation.TheVariants.{Report, Explanation, Picture, FieldPicture}
@@ -14,6 +14,12 @@ use Rattle.decision_explanation.specs.Explained.{decision_explained}
 use Rattle.decision_pictures.specs.Pictured.{decision_pictured}
 use Rattle.request_options.specs.declared.logs.LogForm.{LogForm}
 use Rattle.request_options.specs.declared.logs.LogForm.TheVariants as forms
+use Rattle.request_options.specs.declared.following.FollowOptions.{FollowOptions}
+use Rattle.request_options.specs.declared.following.RunFormat.{RunFormat}
+use Rattle.request_options.specs.declared.following.RunFormat.TheVariants as run_formats
+use Rattle.run_following.specs.JsonLines.{refused_json, run_json}
+use Rattle.run_following.specs.Reports.{RendersRun}
+use Rattle.run_following.specs.Words.{refused_words, run_words}
 use Rattle.log_reports.specs.LogReports.{RendersLog}
 use Rattle.log_reports.specs.LogRefusals.{log_refusal_explained}
 use Rattle.log_reports.specs.LogTexts.{log_explained, log_lines, log_traces}
@@ -47,3 +53,15 @@ abbrev pub log_refused_as : LogForm → RendersRefusal
 log_refused_as forms.Lines = rendered_refusal
 log_refused_as forms.Explained = log_refusal_explained
 log_refused_as forms.Traces = rendered_refusal
+
+abbrev pub run_rendered_in : RunFormat → Bool → RendersRun
+run_rendered_in run_formats.Words explained = run_words explained
+run_rendered_in run_formats.Json explained = run_json explained
+
+-- a run that is followed, with or without sentences
+abbrev pub followed_as : FollowOptions → RendersRun
+followed_as options = run_rendered_in options.format options.is_explained
+
+abbrev pub run_refused_in : RunFormat → RendersRefusal
+run_refused_in run_formats.Words text = refused_words
+run_refused_in run_formats.Json text = refused_json

@@ -19,7 +19,7 @@ use Rattle.run_following.specs.Runs.{IsRunRefusal}
 use Rattle.run_following.specs.declared.streams.RunStream.{RunStream}
 use Rattle.run_following.specs.declared.streams.Stop.{Stop}
 use Rattle.run_following.specs.declared.streams.Stop.TheVariants.{Refused, Told}
-use Rattle.run_following.proofs.StreamFacts.{one_line}
+use Rattle.run_following.proofs.StreamFacts.{accepted_texts, one_line}
 
 -- ---- at the end of the bytes
 
@@ -91,7 +91,7 @@ module _ (options : FollowOptions) (new : RunStream) (text later : List ℕ) (fa
       let is = ends.stops.0 in
       let next = ends.stops.1.0 in
       let accepted = ends.stops.1.1 in
-      let texts : ends.account.texts ++ ends.line ∷ [] ≡ next.texts = ap (λ a. a.texts) (sym accepted.is) in (
+      let texts = accepted_texts ends.account next ends.line accepted in (
         next,
         ends.stops.1.2,
         inr (

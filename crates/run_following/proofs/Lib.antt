@@ -1,5 +1,6 @@
 pub mod AppendedFacts
 pub mod EndingFacts
 pub mod FollowFacts
+pub mod KeptFacts
 pub mod NotedFacts
 pub mod StreamFacts

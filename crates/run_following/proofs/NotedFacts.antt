@@ -1,13 +1,5 @@
 -- Lemmas on the refusals that are noted.
 use Rattle.std.proofs.Common.{◌≡◌, ◌<◌, ◌≤◌, refl, ap, ℕ, zero, suc, List, [], ◌∷◌, ◌++◌, length, take, arith}
-use Rattle.run_steps.specs.Reads.{RefusalValue}
-use Rattle.run_following.specs.declared.noted.NotedRefusals.{NotedRefusals}
-use Rattle.run_following.specs.Noted.{AreNoted}
-
--- Of these refusals the last ones are left to be noted.
-abbrev pub AreLeft : NotedRefusals → NotedRefusals → List (ℕ × RefusalValue) → List (ℕ × RefusalValue) → Type 0
-AreLeft old new all left =
-    (rs : List (ℕ × RefusalValue)) → AreNoted old rs → (done : List (ℕ × RefusalValue)) × AreNoted new done × (done ++ left ≡ rs ++ all)
 
 module _ {X : Type 0} where
   pub take_all : (n : ℕ) (xs : List X) (x : X) → length (take n xs) < n → take n (xs ++ x ∷ []) ≡ take n xs ++ x ∷ []

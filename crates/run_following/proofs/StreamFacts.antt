@@ -8,7 +8,9 @@ use Rattle.std.proofs.lemmas.List.Splits.{join_with_byte-slice_split, length-sli
 use Rattle.line_text.specs.Lines.{parts_of}
 use Rattle.line_text.proofs.CutFacts.{HasLine, first_line}
 use Rattle.line_text.proofs.SplitFacts.{split_part}
-use Rattle.run_following.specs.Accounts.{Account, Follows, IsAccepted, account_at_start}
+use Rattle.run_lines.specs.declared.lines.RunText.{RunText}
+use Rattle.run_lines.specs.declared.lines.RunText.TheVariants as text
+use Rattle.run_following.specs.Accounts.{Account, Follows, IsAccepted, account_at_start, with_said, with_text}
 use Rattle.run_following.specs.Internal.Streams.{AreCut, EndsAt, IsTaken, StandsAt, has_line_end}
 use Rattle.run_following.specs.Runs.{IsOfLines, LeadsTo}
 use Rattle.run_following.specs.declared.streams.RunStream.{RunStream}
@@ -73,11 +75,21 @@ pub leads_more : (from mid to : Account) (lines : List (List ℕ)) (line : List 
 leads_more from mid to [] line leads accepted = (to, subst (λ a. IsAccepted a line to) (sym leads) accepted, refl)
 leads_more from mid to (first ∷ lines) line leads accepted = (leads.0, leads.1, leads_more leads.0 mid to lines line leads.2 accepted)
 
+said_texts : (account : Account) (said : RunText) → (with_said account said).texts ≡ account.texts
+said_texts account text.Note = refl
+said_texts account text.Pso = refl
+said_texts account (text.First place v) = refl
+said_texts account (text.Step p step) = refl
+said_texts account text.End = refl
+
+-- the lines with one more
+pub accepted_texts : (account next : Account) (line : List ℕ) → IsAccepted account line next → account.texts ++ line ∷ [] ≡ next.texts
+accepted_texts account next line accepted = sym (said_texts (with_text account line accepted.said) accepted.said) ∙ ap (λ a. a.texts) (sym accepted.is)
+
 -- an account of lines, with one more
 pub of_lines : (account next : Account) (line : List ℕ) → IsOfLines account → IsAccepted account line next → IsOfLines next
 of_lines account next line leads accepted =
-    let texts : account.texts ++ line ∷ [] ≡ next.texts = ap (λ a. a.texts) (sym accepted.is) in
-    subst (λ ts. LeadsTo account_at_start ts next) texts (leads_more account_at_start account next account.texts line leads accepted)
+    subst (λ ts. LeadsTo account_at_start ts next) (accepted_texts account next line accepted) (leads_more account_at_start account next account.texts line leads accepted)
 
 -- ---- what a stream has followed
 
@@ -105,7 +117,7 @@ module _ (old new : RunStream) (bytes rest line after : List ℕ) (stands : Stan
         done = stands.done ++ whole_line ++ 10 ∷ [];
         follows = t.2;
         leads = of_lines stands.account next whole_line stands.leads accepted;
-        cut = subst (AreCut (stands.done ++ whole_line ++ 10 ∷ [])) (ap (λ a. a.texts) (sym accepted.is)) (cut_more stands.done whole_line stands.account.texts stands.cut none_within);
+        cut = subst (AreCut (stands.done ++ whole_line ++ 10 ∷ [])) (accepted_texts stands.account next whole_line accepted) (cut_more stands.done whole_line stands.account.texts stands.cut none_within);
         whole = told ∙ sym (append_assoc (stands.done ++ whole_line) (10 ∷ []) after)
             ∙ ap (λ p. p ++ after) (sym (append-nil (stands.done ++ whole_line ++ 10 ∷ [])))
             ∙ ap (λ p. (stands.done ++ whole_line ++ 10 ∷ []) ++ p ++ after) (sym t.3);

@@ -1,5 +1,5 @@
 -- What the lines of a run say, one after the other: which line may follow, and what it leads to.
-use Rattle.std.specs.Prelude.{◌≡◌, ◌≢◌, ◌⊎◌, ℕ, suc, ◌&&◌, ◌||◌, not, Bool, true, false, nat_le, List, [], ◌∷◌, ◌++◌, length, map, Option, None, Some, Ok, Err, unwrap_or, if◌then◌else◌}
+use Rattle.std.specs.Prelude.{◌≡◌, ◌≢◌, ◌⊎◌, ℕ, ◌&&◌, ◌||◌, not, Bool, true, false, nat_le, List, [], ◌∷◌, ◌++◌, length, map, Option, None, Some, Ok, Err, unwrap_or, if◌then◌else◌}
 use Rattle.std.specs.Option.{option_map_or}
 use Rattle.tso_ops.specs.declared.settings.Order.{Order}
 use Rattle.tso_ops.specs.declared.settings.Order.TheVariants.{Tso, Pso}
@@ -15,14 +15,15 @@ use Rattle.run_steps.specs.declared.steps.RunLine.{RunLine}
 use Rattle.run_steps.specs.declared.steps.RunStep.{RunStep}
 use Rattle.run_steps.specs.declared.steps.RunStep.TheVariants.{Load, Store, Drain, Write, Swap, Reserve, StoreReserved, Membar, Stbar, Unknown, Last}
 use Rattle.run_steps.specs.Machine.{MachineState, beginning_state, line_comparison, line_refusals, model_of, presetting, state_after_line, state_of_machine, waits_of}
-use Rattle.run_steps.specs.Reads.{RefusalValue}
+use Rattle.run_steps.specs.Names.{StateNames}
 use Rattle.run_following.specs.declared.counts.RunCounts.{RunCounts}
 use Rattle.run_following.specs.declared.followers.Follower.{Follower}
 use Rattle.run_following.specs.declared.stages.Stage.{Stage}
 use Rattle.run_following.specs.declared.stages.Stage.TheVariants.{Notes, Ended}
 use Rattle.run_following.specs.Counts.{counted_with}
-use Rattle.run_following.specs.KeptLines.{kept_texts}
-use Rattle.run_following.specs.Noted.{AreNoted, numbered}
+use Rattle.run_following.specs.Facts.{RefusalTold, told}
+use Rattle.run_following.specs.KeptLines.{AreKept, has_kept, text_at}
+use Rattle.run_following.specs.Noted.{AreNoted}
 use Rattle.run_following.specs.PlacesSaid.{widths_after}
 use Rattle.run_following.specs.Stages.{stage_after}
 use Rattle.run_following.specs.Tallies.{Tallies, has_acted, is_compared}
@@ -30,7 +31,7 @@ use Rattle.run_following.specs.Tallies.{Tallies, has_acted, is_compared}
 -- ---- what lines lead to
 
 -- What the lines of a text say so far: the lines, which places they have, which part of the text they belong to, the memory model, the state of the machine after
--- them, their steps, how many there are of each kind, whether a value was compared, and why lines are no steps, each refusal with the number of its line.
+-- them, their steps, how many there are of each kind, whether a value was compared, and what is told of the lines that are no steps.
 pub record Account : Type 0 where
   pub texts : List (List ℕ)
   pub widths : Widths
@@ -40,7 +41,7 @@ pub record Account : Type 0 where
   pub steps : List RunLine
   pub counts : RunCounts
   pub compared : Bool
-  pub refusals : List (ℕ × RefusalValue)
+  pub refusals : List RefusalTold
 
 -- what no line says
 abbrev pub account_at_start : Account
@@ -56,35 +57,39 @@ account_at_start = record {
   refusals = [];
 }
 
--- a step of the machine, on the next line
+-- a step of the machine, on the last of the lines
 abbrev pub with_next_step : Account → RunLine → Account
 with_next_step account line = record account {
   state = state_after_line line account.state;
   steps = account.steps ++ line ∷ [];
   counts = counted_with (not (has_acted account.steps line.processor)) line.step (line_comparison line account.state) account.counts;
   compared = account.compared || is_compared (line_comparison line account.state);
-  refusals = account.refusals ++ map (numbered line.number) (line_refusals account.model line account.state);
+  refusals = account.refusals ++ map (told (text_at account.texts) line.number) (line_refusals account.model line account.state);
 }
 
 -- a first value
 abbrev pub with_first_value : Account → Place → ℕ → Account
 with_first_value account place v = record account { state = presetting place v account.state }
 
--- what the next line says
+-- what the last of the lines says
 abbrev pub with_said : Account → RunText → Account
 with_said account text.Note = account
 with_said account text.Pso = record account { model = Pso }
 with_said account (text.First place v) = with_first_value account place v
-with_said account (text.Step p step) = with_next_step account (record { number = suc (length account.texts); processor = p; step = step })
+with_said account (text.Step p step) = with_next_step account (record { number = length account.texts; processor = p; step = step })
 with_said account text.End = account
 
--- the next line, which says this
-abbrev pub with_line : Account → List ℕ → RunText → Account
-with_line account line said = record (with_said account said) {
+-- the text of one more line, which says this
+abbrev pub with_text : Account → List ℕ → RunText → Account
+with_text account line said = record account {
   texts = account.texts ++ line ∷ [];
   widths = widths_after account.widths said;
   stage = unwrap_or (stage_after account.stage said) account.stage;
 }
+
+-- the next line, which says this
+abbrev pub with_line : Account → List ℕ → RunText → Account
+with_line account line said = with_said (with_text account line said) said
 
 -- ---- which line may follow
 
@@ -135,11 +140,12 @@ IsRefusedFor account line why = ((account.stage ≡ Ended) × (why ≡ BadLine))
 
 -- The follower holds what these lines say.
 pub record Follows (follower : Follower) (account : Account) : Type 0 where
-  pub texts : kept_texts follower.kept ≡ account.texts
+  pub texts : AreKept follower.kept account.texts
   pub number : follower.number ≡ length account.texts
   pub widths : follower.widths ≡ account.widths
   pub stage : follower.stage ≡ account.stage
   pub model : model_of follower.machine ≡ account.model
   pub state : state_of_machine follower.machine ≡ account.state
+  pub names : StateNames (has_kept follower.kept) account.state
   pub tally : Tallies follower.tally account.steps account.counts account.compared
   pub noted : AreNoted follower.noted account.refusals

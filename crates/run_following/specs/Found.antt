@@ -2,21 +2,11 @@
 use Rattle.std.specs.Prelude.{◌≡◌, ℕ, nat_lt, List, length, map, take, if◌then◌else◌}
 use Rattle.std.specs.List.{sum_by}
 use Rattle.run_steps.specs.Machine.{ProcessorState}
-use Rattle.run_steps.specs.Reads.{RefusalValue, refusal_of}
 use Rattle.run_following.specs.Accounts.{Account}
-use Rattle.run_following.specs.Facts.{RefusalTold, told, told_value}
-use Rattle.run_following.specs.KeptLines.{text_at}
+use Rattle.run_following.specs.Facts.{told_value}
 use Rattle.run_following.specs.declared.found.RunFound.{RunFound}
-use Rattle.run_following.specs.declared.noted.NumberedRefusal.{NumberedRefusal}
 use Rattle.trace_reports.specs.declared.answers.Answer.{Answer}
 use Rattle.trace_reports.specs.declared.answers.Answer.TheVariants.{Clear, Undecided, Violation}
-
--- what is told of a refusal, with the number of its line, where a function gives the lines
-abbrev pub told_of : (ℕ → List ℕ) → ℕ × RefusalValue → RefusalTold
-told_of lines r = told lines r.0 r.1
-
-abbrev pub told_noted : (ℕ → List ℕ) → NumberedRefusal → RefusalTold
-told_noted lines noted = told lines noted.number (refusal_of noted.refusal)
 
 -- how many stores wait
 abbrev pub waiting_in : List ProcessorState → ℕ
@@ -28,7 +18,7 @@ pub record IsFoundIn (most : ℕ) (account : Account) (found : RunFound) : Type 
   pub waiting : found.waiting ≡ waiting_in account.state.processors
   pub compared : found.is_compared ≡ account.compared
   pub refusals : found.refusals ≡ length account.refusals
-  pub told_first : map told_value found.told.items ≡ map (told_of (text_at account.texts)) (take most account.refusals)
+  pub told_first : map told_value found.told.items ≡ take most account.refusals
 
 -- a violation where a line is no step, and nothing where no value was compared
 abbrev pub run_answer : RunFound → Answer

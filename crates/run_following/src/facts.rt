@@ -1,14 +1,16 @@
 //! What is told of a line that is no step of the machine.
-ghost use Rattle.std.specs.Prelude.{◌≡◌, ◌++◌, ◌∷◌, [], IfOk, OnOk, map, string_bytes};
+ghost use Rattle.std.specs.Prelude.{◌≡◌, ◌++◌, ◌∷◌, [], IfErr, IfOk, OnOk, map, string_bytes};
 ghost use Rattle.run_steps.specs.Reads.{refusal_of};
 ghost use Rattle.run_following.specs.Facts.{fact_value, kind_of, named_value, origin_fact, refusal_facts, store_fact, told, told_value};
+ghost use Rattle.run_following.specs.Internal.Faults.{IsRunFault};
 ghost use Rattle.run_following.specs.KeptLines.{kept_text};
 ghost use Rattle.run_following.specs.declared.facts.Fact.TheVariants.{Has};
 
 use crate::kept_lines::KeptLines;
 use run_steps::{Origin, RunRefusal};
 use std::alloc::Global;
-use tso_ops::OutOfMemory;
+use std::str;
+use text_streams::Fault;
 
 /// A line of a text.
 #[derive(Debug, Drop)]
@@ -76,14 +78,16 @@ pub struct ToldRefusal {
     pub facts: Vec<Fact>,
 }
 
-/// Tells why a line is no step. OutOfMemory where an allocation was refused.
+/// Tells why a line is no step. OutOfMemory where an allocation was refused; Read where a line isn't ASCII, which no line is that was
+/// read.
 pub(crate) fn tell(
     alloc: Global,
     kept: &KeptLines,
     number: u64,
     refusal: &RunRefusal,
-) -> Result<ToldRefusal, OutOfMemory>
-    ensures { IfOk result (λ refused. told_value refused ≡ told (kept_text kept.now) number (refusal_of refusal.now)) }
+) -> Result<ToldRefusal, Fault>
+    ensures fault { IfErr result IsRunFault }
+    ensures told { IfOk result (λ refused. told_value refused ≡ told (kept_text kept.now) number (refusal_of refusal.now)) }
 {
     Ok(ToldRefusal {
         line: named(alloc, kept, number)?,
@@ -92,14 +96,18 @@ pub(crate) fn tell(
     })
 }
 
-/// The line of this number. OutOfMemory where an allocation was refused.
-fn named(alloc: Global, kept: &KeptLines, number: u64) -> Result<NamedLine, OutOfMemory>
-    ensures { IfOk result (λ line. named_value line ≡ (number, kept_text kept.now number)) }
+/// The line of this number. OutOfMemory where an allocation was refused; Read where it isn't ASCII.
+fn named(alloc: Global, kept: &KeptLines, number: u64) -> Result<NamedLine, Fault>
+    ensures fault { IfErr result IsRunFault }
+    ensures told { IfOk result (λ line. named_value line ≡ (number, kept_text kept.now number)) }
 {
-    Ok(NamedLine {
-        number,
-        text: String::from_str(alloc, kept.text_of(number))?,
-    })
+    match str::from_utf8(kept.text_of(number)) {
+        Ok(text) => {
+            let text = String::from_str(alloc, text)?;
+            Ok(NamedLine { number, text })
+        },
+        Err(_) => Err(Fault::Read),
+    }
 }
 
 /// Of which kind a refusal is.
@@ -117,8 +125,9 @@ fn kind_of(refusal: &RunRefusal) -> RefusalKind
 }
 
 /// The facts that show a refusal. OutOfMemory where an allocation was refused.
-fn facts_of(alloc: Global, kept: &KeptLines, refusal: &RunRefusal) -> Result<Vec<Fact>, OutOfMemory>
-    ensures { IfOk result (λ facts. map fact_value facts.items ≡ refusal_facts (kept_text kept.now) (refusal_of refusal.now)) }
+fn facts_of(alloc: Global, kept: &KeptLines, refusal: &RunRefusal) -> Result<Vec<Fact>, Fault>
+    ensures fault { IfErr result IsRunFault }
+    ensures told { IfOk result (λ facts. map fact_value facts.items ≡ refusal_facts (kept_text kept.now) (refusal_of refusal.now)) }
 {
     let mut facts = Vec::new(alloc);
     match refusal {
@@ -148,8 +157,9 @@ fn push_store(
     store: u64,
     standing: Standing,
     facts: &mut Vec<Fact>,
-) -> Result<(), OutOfMemory>
-    ensures { OnOk result (map fact_value facts.new.items ≡ map fact_value facts.old.items ++ store_fact (kept_text kept.now) store standing ∷ []) }
+) -> Result<(), Fault>
+    ensures fault { IfErr result IsRunFault }
+    ensures told { OnOk result (map fact_value facts.new.items ≡ map fact_value facts.old.items ++ store_fact (kept_text kept.now) store standing ∷ []) }
 {
     let line = named(alloc, kept, store)?;
     facts.push(Fact::Store { line, standing })?;
@@ -162,8 +172,9 @@ fn push_origins(
     kept: &KeptLines,
     origins: &[Origin],
     facts: &mut Vec<Fact>,
-) -> Result<(), OutOfMemory>
-    ensures { OnOk result (map fact_value facts.new.items ≡ map fact_value facts.old.items ++ map (origin_fact (kept_text kept.now)) origins.now) }
+) -> Result<(), Fault>
+    ensures fault { IfErr result IsRunFault }
+    ensures told { OnOk result (map fact_value facts.new.items ≡ map fact_value facts.old.items ++ map (origin_fact (kept_text kept.now)) origins.now) }
 {
     for origin in origins {
         push_origin(alloc, kept, *origin, facts)?;
@@ -177,8 +188,9 @@ fn push_origin(
     kept: &KeptLines,
     origin: Origin,
     facts: &mut Vec<Fact>,
-) -> Result<(), OutOfMemory>
-    ensures { OnOk result (map fact_value facts.new.items ≡ map fact_value facts.old.items ++ origin_fact (kept_text kept.now) origin ∷ []) }
+) -> Result<(), Fault>
+    ensures fault { IfErr result IsRunFault }
+    ensures told { OnOk result (map fact_value facts.new.items ≡ map fact_value facts.old.items ++ origin_fact (kept_text kept.now) origin ∷ []) }
 {
     match origin {
         Origin::First => {

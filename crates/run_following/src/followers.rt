@@ -1,11 +1,11 @@
 //! A run, followed line by line.
-ghost use Rattle.std.specs.Prelude.{◌≡◌, ◌<◌, ◌+◌, ◌++◌, ◌∷◌, [], IfErr, IfOk, OnOk, Some, true, length};
-ghost use Rattle.run_lines.specs.Lines.{HasProcessor, is_plain};
+ghost use Rattle.std.specs.Prelude.{◌≡◌, ◌<◌, IfErr, IfOk, IsTrue, OnOk, Some};
+ghost use Rattle.run_lines.specs.Lines.{HasProcessor};
 ghost use Rattle.run_steps.specs.Machine.{state_of_machine};
-ghost use Rattle.run_following.specs.Accounts.{Account, Follows, account_at_start, is_full, is_waiting_store, with_line, with_said, with_next_step};
+ghost use Rattle.run_following.specs.Accounts.{Account, Follows, account_at_start, is_full, is_waiting_store, with_line, with_said, with_next_step, with_text};
 ghost use Rattle.run_following.specs.Internal.Answers.{IsAnswered, IsAnsweredSaid};
 ghost use Rattle.run_following.specs.Internal.Faults.{IsRunFault};
-ghost use Rattle.run_following.specs.KeptLines.{kept_texts};
+ghost use Rattle.run_following.specs.KeptLines.{has_kept};
 ghost use Rattle.run_following.specs.Stages.{stage_after};
 
 use crate::kept_lines::KeptLines;
@@ -16,7 +16,7 @@ use crate::widths::widths_after;
 use run_lines::{RunText, Widths, line_read};
 use run_steps::{Machine, RunLine, RunStep};
 use std::alloc::Global;
-use std::str;
+use std::collections::HashSet;
 use text_streams::Fault;
 use tso_ops::Order;
 use tso_text::Why;
@@ -78,7 +78,6 @@ impl Follower {
         said: RunText,
     ) -> Result<Option<Why>, Fault>
         requires processor { HasProcessor said }
-        requires plain { is_plain line.now ≡ true }
         ensures fault { IfErr result IsRunFault }
         ensures answered { IfOk result (λ why. (account : Account) → Follows self.old account → IsAnsweredSaid account line.now said self.new why) }
         ensures most { self.new.noted.most ≡ self.old.noted.most }
@@ -102,41 +101,56 @@ impl Follower {
         stage: Stage,
     ) -> Result<(), Fault>
         requires processor { HasProcessor said }
-        requires plain { is_plain line.now ≡ true }
         ensures fault { IfErr result IsRunFault }
         ensures follows { OnOk result ((account : Account) → Follows self.old account → stage_after account.stage said ≡ Some stage →
             Follows self.new (with_line account line.now said)) }
         ensures most { self.new.noted.most ≡ self.old.noted.most }
     {
+        if self.kept.is_full() {
+            self.forget(alloc)?;
+        }
+        self.keep(alloc, line, &said, stage)?;
+        self.follow(alloc, &said)
+    }
+
+    /// Forgets the lines that nothing names.
+    fn forget(&mut self, alloc: Global) -> Result<(), Fault>
+        ensures fault { IfErr result IsRunFault }
+        ensures follows { OnOk result ((account : Account) → Follows self.old account → Follows self.new account) }
+        ensures most { self.new.noted.most ≡ self.old.noted.most }
+    {
+        let mut names = HashSet::new(alloc);
+        self.machine.add_named_stores(&mut names)?;
+        self.kept.keep_only(&names);
+        Ok(())
+    }
+
+    /// Keeps a line, which says this, to this part of the text.
+    fn keep(
+        &mut self,
+        alloc: Global,
+        line: &[u8],
+        said: &RunText,
+        stage: Stage,
+    ) -> Result<(), Fault>
+        ensures fault { IfErr result IsRunFault }
+        ensures follows { OnOk result ((account : Account) → Follows self.old account → stage_after account.stage said.now ≡ Some stage →
+            Follows self.new (with_text account line.now said.now)) }
+        ensures kept { OnOk result (IsTrue (has_kept self.new.kept self.new.number)) }
+        ensures most { self.new.noted.most ≡ self.old.noted.most }
+    {
         let number = self.number.checked_add(1).ok_or(Fault::Read)?;
-        self.follow(alloc, number, &said)?;
-        self.keep(alloc, line)?;
+        self.kept.keep(alloc, number, line)?;
         self.number = number;
-        self.widths = widths_after(self.widths, &said);
+        self.widths = widths_after(self.widths, said);
         self.stage = stage;
         Ok(())
     }
 
-    /// Keeps a line, which is ASCII.
-    fn keep(&mut self, alloc: Global, line: &[u8]) -> Result<(), Fault>
-        requires { is_plain line.now ≡ true }
-        ensures fault { IfErr result IsRunFault }
-        ensures kept { OnOk result (kept_texts self.new.kept ≡ kept_texts self.old.kept ++ line.now ∷ []) }
-        ensures others { self.new ≡ record self.old { kept = self.new.kept } }
-    {
-        match str::from_utf8(line) {
-            Ok(text) => {
-                self.kept.keep(alloc, text)?;
-                Ok(())
-            },
-            Err(_) => Err(Fault::Read),
-        }
-    }
-
-    /// Does what the line of this number says.
-    fn follow(&mut self, alloc: Global, number: u64, said: &RunText) -> Result<(), Fault>
+    /// Does what the last line says.
+    fn follow(&mut self, alloc: Global, said: &RunText) -> Result<(), Fault>
         requires processor { HasProcessor said.now }
-        requires next { number ≡ self.old.number + 1 }
+        requires kept { IsTrue (has_kept self.old.kept self.old.number) }
         ensures fault { IfErr result IsRunFault }
         ensures follows { OnOk result ((account : Account) → Follows self.old account → Follows self.new (with_said account said.now)) }
         ensures most { self.new.noted.most ≡ self.old.noted.most }
@@ -147,7 +161,7 @@ impl Follower {
             RunText::First { place, value } => self.machine.preset(*place, *value)?,
             RunText::Step { processor, step } => {
                 let line = RunLine {
-                    number,
+                    number: self.number,
                     processor: *processor as usize,
                     step: *step,
                 };
@@ -160,6 +174,7 @@ impl Follower {
     /// Does a step.
     fn follow_step(&mut self, alloc: Global, line: RunLine) -> Result<(), Fault>
         requires processor { line.processor < 4096 }
+        requires kept { IsTrue (has_kept self.old.kept line.number) }
         ensures fault { IfErr result IsRunFault }
         ensures follows { OnOk result ((account : Account) → Follows self.old account → Follows self.new (with_next_step account line)) }
         ensures most { self.new.noted.most ≡ self.old.noted.most }
@@ -167,7 +182,8 @@ impl Follower {
         let mut refusals = Vec::new(alloc);
         let comparison = self.machine.step(alloc, line, &mut refusals)?;
         self.tally.count(line, comparison)?;
-        self.noted.note_all(line.number, refusals)
+        self.noted
+            .note_all(alloc, &self.kept, line.number, &refusals)
     }
 
     /// Whether a store would wait, of a processor of which the most wait.

@@ -1,16 +1,13 @@
 //! What is found of a run.
-ghost use Rattle.std.specs.Prelude.{◌≡◌, IfOk, map};
+ghost use Rattle.std.specs.Prelude.{◌≡◌, IfOk};
 ghost use Rattle.run_following.specs.Accounts.{Account, Follows};
-ghost use Rattle.run_following.specs.Facts.{told_value};
-ghost use Rattle.run_following.specs.Found.{IsFoundIn, run_answer, told_noted};
-ghost use Rattle.run_following.specs.KeptLines.{kept_text};
+ghost use Rattle.run_following.specs.Found.{IsFoundIn, run_answer};
 
 use crate::counts::RunCounts;
-use crate::facts::{ToldRefusal, tell};
+use crate::facts::ToldRefusal;
 use crate::followers::Follower;
-use crate::kept_lines::KeptLines;
-use crate::noted::NumberedRefusal;
 use std::alloc::Global;
+use std::mem;
 use trace_reports::Answer;
 use tso_ops::OutOfMemory;
 
@@ -45,31 +42,17 @@ impl RunFound {
 }
 
 impl Follower {
-    /// What is found of the lines so far. OutOfMemory where an allocation was refused.
-    pub(crate) fn found(&self, alloc: Global) -> Result<RunFound, OutOfMemory>
-        ensures { IfOk result (λ found. (account : Account) → Follows self.now account → IsFoundIn self.now.noted.most account found) }
+    /// What is found of the lines so far; it takes what is told of refusals. OutOfMemory where there are too many stores to count.
+    pub(crate) fn found(&mut self, alloc: Global) -> Result<RunFound, OutOfMemory>
+        ensures { IfOk result (λ found. (account : Account) → Follows self.old account → IsFoundIn self.old.noted.most account found) }
     {
+        let waiting = self.machine.waiting()?;
         Ok(RunFound {
             counts: self.tally.counts,
-            waiting: self.machine.waiting()?,
+            waiting,
             is_compared: self.tally.is_compared,
             refusals: self.noted.total,
-            told: tell_all(alloc, &self.kept, &self.noted.first)?,
+            told: mem::replace(&mut self.noted.first, Vec::new(alloc)),
         })
     }
-}
-
-/// Tells of these refusals. OutOfMemory where an allocation was refused.
-fn tell_all(
-    alloc: Global,
-    kept: &KeptLines,
-    refusals: &[NumberedRefusal],
-) -> Result<Vec<ToldRefusal>, OutOfMemory>
-    ensures { IfOk result (λ all. map told_value all.items ≡ map (told_noted (kept_text kept.now)) refusals.now) }
-{
-    let mut all = Vec::new(alloc);
-    for noted in refusals {
-        all.push(tell(alloc, kept, noted.number, &noted.refusal)?)?;
-    }
-    Ok(all)
 }

@@ -10,6 +10,7 @@ ghost use Rattle.run_following.specs.Reports.{IsRunReport, IsRunReportOfReader};
 
 use crate::found::RunFound;
 use crate::streams::{RunStream, Stop};
+use progress_meters::Meter;
 use request_options::FollowOptions;
 use std::alloc::Global;
 use std::io::{Read, Write};
@@ -31,15 +32,16 @@ pub(crate) struct Ending {
 
 /// Reports on the run that a reader has: writes what is rendered of what was found in it, or of a text that is no run.
 ///
-/// The text is read once, and nothing past the call of `read` that gave the end of a line that is refused, or, where the first line that is no
+/// The meter hears how many lines are followed. The text is read once, and nothing past the call of `read` that gave the end of a line that is refused, or, where the first line that is no
 /// step ends the run, of that line.
 ///
 /// Faults: OutOfMemory where an allocation was refused; Read where the reader failed, was interrupted 1,048,576 times in a row, or has 2^64 lines,
 /// refusals or calls; Write where the writer failed, took no byte or was interrupted more than 1,048,576 times.
-pub fn follow_run<P: Rendering<(), RunFound>, R: Read, W: Write>(
+pub fn follow_run<P: Rendering<(), RunFound>, M: Meter, R: Read, W: Write>(
     alloc: Global,
     options: FollowOptions,
     rendering: &P,
+    meter: &M,
     reader: &mut R,
     writer: &mut W,
 ) -> Result<Answer, Fault>
@@ -52,16 +54,17 @@ pub fn follow_run<P: Rendering<(), RunFound>, R: Read, W: Write>(
         (IsRunReportOfReader (P.rendered rendering.now tt) (P.refused rendering.now) options (R.remaining reader.old))
         (W.contents writer.old) (W.contents writer.new)) }
 {
-    let report = read_report(alloc, options, rendering, reader)?;
+    let report = read_report(alloc, options, rendering, meter, reader)?;
     write_text(writer, report.text.as_bytes())?;
     Ok(report.verdict)
 }
 
 /// The report on the run that a reader has.
-fn read_report<P: Rendering<(), RunFound>, R: Read>(
+fn read_report<P: Rendering<(), RunFound>, M: Meter, R: Read>(
     alloc: Global,
     options: FollowOptions,
     rendering: &P,
+    meter: &M,
     reader: &mut R,
 ) -> Result<Report<Answer>, Fault>
     ensures report { IfOk result (λ report. IsRunReportOfReader (P.rendered rendering.now tt) (P.refused rendering.now) options
@@ -69,24 +72,25 @@ fn read_report<P: Rendering<(), RunFound>, R: Read>(
     ensures taken { IfOk result (λ _. (bytes : List ℕ) × Consumes (R.remaining reader.old) (R.remaining reader.new) bytes) }
     ensures fault { IfErr result IsRunFault }
 {
-    let ending = read_run(alloc, options, reader)?;
-    report_on(alloc, rendering, &ending)
+    let ending = read_run(alloc, options, meter, reader)?;
+    report_on(alloc, rendering, ending)
 }
 
 /// What is rendered of a run that ends so.
 fn report_on<P: Rendering<(), RunFound>>(
     alloc: Global,
     rendering: &P,
-    ending: &Ending,
+    ending: Ending,
 ) -> Result<Report<Answer>, Fault>
-    ensures report { IfOk result (λ report. (options : FollowOptions) (text : List ℕ) → ending.now.stream.follower.noted.most ≡ options.most →
-        EndsText options ending.now.stream ending.now.refused text →
+    ensures report { IfOk result (λ report. (options : FollowOptions) (text : List ℕ) → ending.stream.follower.noted.most ≡ options.most →
+        EndsText options ending.stream ending.refused text →
         IsRunReport (P.rendered rendering.now tt) (P.refused rendering.now) options text (string_bytes report.text) report.verdict) }
     ensures fault { IfErr result IsRunFault }
 {
     if let Some(fault) = ending.refused {
         return Ok(render_refused(alloc, &[], fault, rendering, Answer::Refused)?);
     }
+    let mut ending = ending;
     let found = ending.stream.follower.found(alloc)?;
     Ok(Report {
         verdict: found.answer(),
@@ -95,7 +99,12 @@ fn report_on<P: Rendering<(), RunFound>>(
 }
 
 /// Follows the run that a reader has.
-fn read_run<R: Read>(alloc: Global, options: FollowOptions, reader: &mut R) -> Result<Ending, Fault>
+fn read_run<M: Meter, R: Read>(
+    alloc: Global,
+    options: FollowOptions,
+    meter: &M,
+    reader: &mut R,
+) -> Result<Ending, Fault>
     ensures ending { IfOk result (IsEnding options (R.remaining reader.old)) }
     ensures most { IfOk result (λ ending. ending.stream.follower.noted.most ≡ options.most) }
     ensures taken { IfOk result (λ _. (bytes : List ℕ) × Consumes (R.remaining reader.old) (R.remaining reader.new) bytes) }
@@ -110,7 +119,10 @@ fn read_run<R: Read>(alloc: Global, options: FollowOptions, reader: &mut R) -> R
             let refused = stream.fault_at_end(options.needs_end)?;
             return Ok(Ending { stream, refused });
         }
-        if let Some(stop) = stream.take(alloc, &chunk[..count])? {
+        let before = stream.follower.number;
+        let stop = stream.take(alloc, &chunk[..count])?;
+        meter.advance(stream.follower.number.saturating_sub(before));
+        if let Some(stop) = stop {
             return Ok(stopped(stream, stop));
         }
     }

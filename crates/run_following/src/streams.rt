@@ -71,10 +71,23 @@ impl RunStream {
             IsTaken self.new account (self.old.pending.items ++ line.now) stop) }
         ensures options { (self.new.is_fast ≡ self.old.is_fast) × (self.new.follower.noted.most ≡ self.old.follower.noted.most) }
     {
-        let number = self.follower.number.checked_add(1).ok_or(Fault::Read)?;
+        if self.pending.is_empty() {
+            return self.follow_line(alloc, line);
+        }
         self.pending.extend_from_slice(line)?;
         let whole = mem::replace(&mut self.pending, Vec::new(alloc));
-        let refused = self.follower.accept(alloc, &whole)?;
+        self.follow_line(alloc, &whole)
+    }
+
+    /// Follows a line.
+    fn follow_line(&mut self, alloc: Global, line: &[u8]) -> Result<Option<Stop>, Fault>
+        requires { self.old.pending.items ≡ [] }
+        ensures fault { IfErr result IsRunFault }
+        ensures taken { IfOk result (λ stop. (account : Account) → Follows self.old.follower account → IsTaken self.new account line.now stop) }
+        ensures options { (self.new.is_fast ≡ self.old.is_fast) × (self.new.follower.noted.most ≡ self.old.follower.noted.most) }
+    {
+        let number = self.follower.number.checked_add(1).ok_or(Fault::Read)?;
+        let refused = self.follower.accept(alloc, line)?;
         if let Some(why) = refused {
             let line = number as usize;
             return Ok(Some(Stop::Refused(TextFault { line, why })));

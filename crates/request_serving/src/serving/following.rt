@@ -9,8 +9,10 @@ ghost use Rattle.text_streams.specs.WrittenTexts.{LeavesAtFault, WritesWhole};
 ghost use Rattle.request_texts.specs.OpenedFiles.{OpensNext, files_named, name_in, text_bytes};
 
 use command_line::FollowRequest;
+use progress_meters::Meter;
+use request_options::{FollowOptions, RunFormat};
 use request_texts::{Environment, open};
-use run_following::{AsRunWords, follow_run};
+use run_following::{AsRunJson, AsRunWords, follow_run};
 use std::alloc::Global;
 use std::io::{Read, Write};
 use text_streams::Fault;
@@ -34,11 +36,38 @@ pub(crate) fn follow_named<O: Environment, R: Read, W: Write>(
     ensures taken { request.now.file ≡ None → IfOk result (λ _. (bytes : List ℕ) × Consumes (R.remaining reader.old) (R.remaining reader.new) bytes) }
 {
     let options = request.options;
+    let meter = files.meter("lines", None);
     match request.file {
-        None => follow_run(alloc, options, &AsRunWords, reader, writer),
+        None => follow_reader(alloc, options, &meter, reader, writer),
         Some(name) => {
             let mut file = open(files, name)?;
-            follow_run(alloc, options, &AsRunWords, &mut file, writer)
+            follow_reader(alloc, options, &meter, &mut file, writer)
+        }
+    }
+}
+
+/// Writes the report on the run that a reader has, in the form that the options name.
+fn follow_reader<M: Meter, R: Read, W: Write>(
+    alloc: Global,
+    options: FollowOptions,
+    meter: &M,
+    reader: &mut R,
+    writer: &mut W,
+) -> Result<Answer, Fault>
+    ensures whole { IfOk result (WritesWhole (IsFollowedRun options (R.remaining reader.old)) (W.contents writer.old) (W.contents writer.new)) }
+    ensures fault { IfErr result (LeavesAtFault (IsFollowedRun options (R.remaining reader.old)) (W.contents writer.old) (W.contents writer.new)) }
+    ensures no_thread { IfErr result (λ fault. fault ≢ NoThread) }
+    ensures taken { IfOk result (λ _. (bytes : List ℕ) × Consumes (R.remaining reader.old) (R.remaining reader.new) bytes) }
+{
+    let is_explained = options.is_explained;
+    match options.format {
+        RunFormat::Words => {
+            let words = AsRunWords { is_explained };
+            follow_run(alloc, options, &words, meter, reader, writer)
+        }
+        RunFormat::Json => {
+            let json = AsRunJson { is_explained };
+            follow_run(alloc, options, &json, meter, reader, writer)
         }
     }
 }

@@ -5,7 +5,7 @@ use Rattle.run_following.proofs.reports.report_on.Goals as goal
 
 pub returns-clause-report : goal.returns-clause-report
 returns-clause-report g c options text most ends =
-    let e = subst (λ r. EndsText options c.args.ending.now.stream r text) c.in_default.is ends in
+    let e = subst (λ r. EndsText options c.args.ending.stream r text) c.in_default.is ends in
     inl (
       e.0,
       e.2,
