@@ -3,6 +3,7 @@ pub mod MemoryFacts
 pub mod PartFacts
 pub mod ReadFacts
 pub mod StoreFacts
+pub mod WaitingFacts
 pub mod StateFacts
 pub mod StepFacts
 pub mod RunFacts

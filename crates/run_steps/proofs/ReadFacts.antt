@@ -1,5 +1,5 @@
 -- Lemmas on what is read at places, cell by cell.
-use Rattle.std.proofs.Common.{refl, ◌/◌, get_or, subst, Bool, List, nat_le, nat_lt, ◌&&◌, None, [], ◌∷◌, ◌≡◌, ◌≢◌, ◌<◌, ◌≤◌, ◌+◌, ◌-◌, ◌*◌, ◌%◌, ◌^◌, ◌==◌, ◌∙◌, sym, ap, ℕ, zero, suc, true, false, cond, List, Option, Some, option_map, unwrap_or, arith, ⊎_elim}
+use Rattle.std.proofs.Common.{refl, ◌/◌, get_or, subst, Bool, List, nat_le, nat_lt, ◌&&◌, None, [], ◌∷◌, drop, take, ◌≡◌, ◌≢◌, ◌<◌, ◌≤◌, ◌+◌, ◌-◌, ◌*◌, ◌%◌, ◌^◌, ◌==◌, ◌∙◌, sym, ap, ℕ, zero, suc, true, false, cond, List, Option, Some, option_map, unwrap_or, arith, ⊎_elim}
 use Rattle.std.proofs.lemmas.Bool.Decides.{eqb_tells}
 use Rattle.std.proofs.lemmas.Option.{none-some}
 use Rattle.std.proofs.lemmas.Bool.Decides.{nat_tests}
@@ -11,6 +11,7 @@ use Rattle.run_steps.specs.declared.processors.WaitingStore.{WaitingStore}
 use Rattle.run_steps.specs.Places.{cell_count, cell_parts, parts_from, covers, is_place, overlaps}
 use Rattle.run_steps.specs.Widths.{above_bytes, cells_of, low_part}
 use Rattle.run_steps.specs.Reads.{Memory, joined_cells, newest_over, newest_sharing, origins_from, read_from, read_in, seen_before, seen_in, seen_of, sees, with_origin}
+use Rattle.run_steps.proofs.WaitingFacts.{newest_by, newest-older, over-by}
 
 -- the lowest of the cells, and those above it
 read-next : (width : ℕ) (look : ℕ → Option CellContent) (address count : ℕ) → 0 < count →
@@ -94,7 +95,7 @@ covers_own a b i within one two =
     ∙ own_cell b.address (cell_count b) i within
 
 -- where the place of the first shares no cell with the second's, none of the second's cells is one of the first's
-apart : (a m b n i : ℕ) → cond (nat_le a b) (nat_lt (b - a) m) (nat_lt (a - b) n) ≡ false → i < n → (nat_le a (b + i) && nat_lt (b + i - a) m) ≡ false
+pub apart : (a m b n i : ℕ) → cond (nat_le a b) (nat_lt (b - a) m) (nat_lt (a - b) n) ≡ false → i < n → (nat_le a (b + i) && nat_lt (b + i - a) m) ≡ false
 apart a m b n i e within = grind (arith, nat_tests)
 
 -- of the newest store that shares a cell with the place, and the newest that has this cell: there is none, or the one is the other if it is of this very place
@@ -131,6 +132,43 @@ at_first place = record { none = λ e. refl; same = λ w e of_place. absurd (non
 pub sees_memory : (memory : Memory) (waiting : List WaitingStore) (place : Place) (i : ℕ) → i < cell_count place → newest_sharing waiting place None ≡ None →
     sees memory waiting (place.address + i) ≡ seen_in (memory (place.address + i))
 sees_memory memory waiting place i within none = ap (seen_before memory (place.address + i)) ((agrees_all waiting place i None None within (at_first place)).none none)
+
+-- what is read where the same is seen in each cell
+read_same : (width : ℕ) (one other : ℕ → Option CellContent) (address count : ℕ) → ((i : ℕ) → i < count → one (address + i) ≡ other (address + i)) →
+    read_from width one address count ≡ read_from width other address count
+read_same width one other address zero same = refl
+read_same width one other address (suc count) same =
+    let start : address + 0 ≡ address = omega arith in
+    let first : one address ≡ other address = ap one (sym start) ∙ same 0 (omega arith) ∙ ap other start in
+    let others = read_same width one other (address + 1) count
+    (λ i within.
+    let next : address + 1 + i ≡ address + (suc i) = omega arith in
+    ap one next ∙ same (suc i) (omega (arith, within)) ∙ ap other (sym next)) in
+    ap (λ o. joined_cells width o (read_from width one (address + 1) count)) first ∙ ap (joined_cells width (other address)) others
+
+-- where no store that waits shares a cell with the place, what is read there is what is read of memory alone
+pub alone_read : (memory : Memory) (waiting : List WaitingStore) (place : Place) → newest_sharing waiting place None ≡ None → read_in place (sees memory []) ≡ read_in place (sees memory waiting)
+alone_read memory waiting place none =
+    read_same place.width (sees memory []) (sees memory waiting) place.address (cell_count place) (λ i within. sym (sees_memory memory waiting place i within none))
+
+-- what is seen of all stores at a place is seen of the older ones, where none of the others shares a cell with it
+older_seen : (memory : Memory) (waiting : List WaitingStore) (place : Place) (k i : ℕ) → i < cell_count place → newest_sharing (drop k waiting) place None ≡ None →
+    sees memory (take k waiting) (place.address + i) ≡ sees memory waiting (place.address + i)
+older_seen memory waiting place k i within none =
+    let cell = place.address + i in
+    let test = λ (w : WaitingStore). covers w.place cell in
+    let newer : newest_by test (drop k waiting) None ≡ None =
+    sym (over-by (drop k waiting) cell None) ∙ (agrees_all (drop k waiting) place i None None within (at_first place)).none none in
+    sym (ap (seen_before memory cell) (
+    over-by waiting cell None
+    ∙ newest-older test waiting k newer
+    ∙ sym (over-by (take k waiting) cell None)))
+
+-- so it is with what is read there
+pub older_read : (memory : Memory) (waiting : List WaitingStore) (place : Place) (k : ℕ) → newest_sharing (drop k waiting) place None ≡ None →
+    read_in place (sees memory (take k waiting)) ≡ read_in place (sees memory waiting)
+older_read memory waiting place k none =
+    read_same place.width (sees memory (take k waiting)) (sees memory waiting) place.address (cell_count place) (λ i within. older_seen memory waiting place k i within none)
 
 -- where the newest that does is of this very place, what is seen there is what it has
 sees_store : (memory : Memory) (waiting : List WaitingStore) (place : Place) (w : WaitingStore) (i : ℕ) → i < cell_count place → newest_sharing waiting place None ≡ Some w → is_place w.place place ≡ true →

@@ -11,6 +11,7 @@ pub use refusals::{CellContent, Comparison, Origin, RunRefusal};
 pub use steps::{RunLine, RunStep};
 
 mod blocks;
+mod cell_stores;
 mod cells;
 pub mod laws;
 mod machines;

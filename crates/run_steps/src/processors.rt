@@ -1,5 +1,5 @@
 //! What the machine has of each processor: the stores that wait, and its reservation.
-ghost use Rattle.std.specs.Prelude.{◌≡◌, ◌<◌, ◌-◌, ◌++◌, suc, None, IfSome, OnOk, cond, length, map, replicate};
+ghost use Rattle.std.specs.Prelude.{◌≡◌, ◌<◌, ◌+◌, ◌-◌, ◌++◌, suc, None, IfNone, IfSome, OnOk, cond, drop, length, map, replicate, slice_get};
 ghost use Rattle.std.specs.List.{find, position};
 ghost use Rattle.run_steps.specs.Machine.{processors_after, drained_number, idle, keeps_back, losing, oldest_waiting, processor_state, with_store, without_reserved};
 ghost use Rattle.run_steps.specs.Places.{is_place, overlaps};
@@ -74,26 +74,28 @@ pub(crate) fn add_waiting(
 pub(crate) fn newest_over(waiting: &[WaitingStore], cell: u64) -> Option<WaitingStore>
     ensures { result ≡ newest_over waiting.now cell None }
 {
-    let mut newest = None;
-    for store in waiting {
+    for k in (0..waiting.len()).rev() {
+        let store = waiting[k];
         if store.place.covers(cell) {
-            newest = Some(*store);
+            return Some(store);
         }
     }
-    newest
+    None
 }
 
-/// The newest of the stores that shares a cell with a place.
-pub(crate) fn newest_sharing(waiting: &[WaitingStore], place: Place) -> Option<WaitingStore>
-    ensures { result ≡ newest_sharing waiting.now place None }
+/// The number, from 0, of the newest of the stores that shares a cell with a place.
+pub(crate) fn newest_sharing(waiting: &[WaitingStore], place: Place) -> Option<usize>
+    ensures none { IfNone result (newest_sharing waiting.now place None ≡ None) }
+    ensures bound { IfSome result (λ k. k < length waiting.now) }
+    ensures is { IfSome result (λ k. newest_sharing waiting.now place None ≡ slice_get waiting.now k) }
+    ensures newer { IfSome result (λ k. newest_sharing (drop (k + 1) waiting.now) place None ≡ None) }
 {
-    let mut newest = None;
-    for store in waiting {
-        if store.place.overlaps(&place) {
-            newest = Some(*store);
+    for k in (0..waiting.len()).rev() {
+        if waiting[k].place.overlaps(&place) {
+            return Some(k);
         }
     }
-    newest
+    None
 }
 
 /// The oldest of the stores that shares a cell with a place.

@@ -3,9 +3,10 @@ ghost use Rattle.std.specs.Prelude.{◌≡◌, ◌≢◌, None, ◌++◌, ◌+�
 ghost use Rattle.run_steps.specs.declared.cells.Cell.TheVariants.{First};
 ghost use Rattle.run_steps.specs.Places.{cell_count};
 ghost use Rattle.std.specs.List.{list_any};
-ghost use Rattle.run_steps.specs.Reads.{compared, is_origin, memory_of_cells, newest_sharing, origins_in, read_in, refusal_of, seen_in, sees, value_refusals, with_origin};
+ghost use Rattle.run_steps.specs.Reads.{compared, is_origin, memory_of_cells, newest_sharing, origins_in, read_in, refusal_of, seen_before, seen_in, sees, value_refusals, with_origin};
 
 use crate::blocks::{Block, MemoryCells};
+use crate::cell_stores::newest_of_cells;
 use crate::cells::Cell;
 use crate::places::{Place, fits};
 use crate::processors::{WaitingStore, newest_over, newest_sharing};
@@ -25,7 +26,15 @@ impl<'a> View<'a> {
     fn look(&self, cell: u64) -> Option<CellContent>
         ensures { result ≡ sees (memory_of_cells self.now.memory.now) self.now.waiting.now cell }
     {
-        if let Some(waiting) = newest_over(self.waiting, cell) {
+        self.seen(newest_over(self.waiting, cell), cell)
+    }
+
+    /// What is seen in a cell over which this is the newest store that waits: what memory holds, where there is none. None where that isn't
+    /// known.
+    fn seen(&self, newest: Option<WaitingStore>, cell: u64) -> Option<CellContent>
+        ensures { result ≡ seen_before (memory_of_cells self.now.memory.now) cell newest }
+    {
+        if let Some(waiting) = newest {
             let number = cell.saturating_sub(waiting.place.address);
             return Some(CellContent {
                 value: waiting.place.part(waiting.value, number),
@@ -62,13 +71,18 @@ impl<'a> View<'a> {
                 None => None,
             };
         }
-        match newest_sharing(self.waiting, place) {
-            None => self.read_memory(place),
-            Some(store) if store.place.is(&place) && fits(place.width, store.value) => {
-                Some(store.value)
-            },
-            Some(_) => self.read_bytes(place),
+        let Some(k) = newest_sharing(self.waiting, place) else {
+            return self.read_memory(place);
+        };
+        let store = self.waiting[k];
+        if store.place.is(&place) && fits(place.width, store.value) {
+            return Some(store.value);
         }
+        let older = View {
+            memory: self.memory,
+            waiting: &self.waiting[..k + 1],
+        };
+        older.read_bytes(place)
     }
 
     /// The value that is read at a place of bytes over which no store waits. None where some of it isn't known.
@@ -79,7 +93,11 @@ impl<'a> View<'a> {
     {
         match self.block(place) {
             Some(block) => block.read(place),
-            None => self.read_bytes(place),
+            None => View {
+                memory: self.memory,
+                waiting: &[],
+            }
+            .read_bytes(place),
         }
     }
 
@@ -102,9 +120,10 @@ impl<'a> View<'a> {
         requires { place.width ≢ 0 }
         ensures { result ≡ read_in place (sees (memory_of_cells self.now.memory.now) self.now.waiting.now) }
     {
+        let newest = newest_of_cells(self.waiting, place);
         let mut value = Some(0);
         for i in (0..place.width).rev() {
-            value = match (self.look(place.address + i), value) {
+            value = match (self.seen(newest[i as usize], place.address + i), value) {
                 (Some(seen), Some(above)) => Some(seen.value % 256 + 256 * above),
                 _ => None,
             };
@@ -116,9 +135,11 @@ impl<'a> View<'a> {
     fn origins(&self, alloc: Global, place: Place) -> Result<Vec<Origin>, OutOfMemory>
         ensures { IfOk result (λ origins. origins.items ≡ origins_in place (sees (memory_of_cells self.now.memory.now) self.now.waiting.now)) }
     {
+        let newest = newest_of_cells(self.waiting, place);
         let mut origins = Vec::new(alloc);
         for i in 0..place.cells() {
-            add_origin(&mut origins, self.look(place.address + i))?;
+            let seen = self.seen(newest[i as usize], place.address + i);
+            add_origin(&mut origins, seen)?;
         }
         Ok(origins)
     }

@@ -1,6 +1,7 @@
 use Rattle.std.proofs.Common.{◌≡◌, None, drop}
-use Rattle.run_steps.specs.Reads.{newest_sharing}
+use Rattle.run_steps.specs.Places.{overlaps}
+use Rattle.run_steps.proofs.WaitingFacts.{newest_by}
 use Rattle.run_steps.proofs.processors.newest_sharing.Given as goal
 
-abbrev pub invariant-loop-store : goal.invariant-loop-store
-invariant-loop-store l = newest_sharing (drop l.store-index l.waiting) l.place l.newest ≡ newest_sharing l.waiting l.place None
+abbrev pub invariant-loop-k : goal.invariant-loop-k
+invariant-loop-k l = newest_by (λ w. overlaps w.place l.place) (drop l.k l.waiting) None ≡ None
