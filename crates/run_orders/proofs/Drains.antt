@@ -1,25 +1,23 @@
 -- A drain of a run is matched by one of the machine of units, where the location is known.
-use Rattle.std.proofs.Common.{◌≡◌, ◌∙◌, sym, ap, refl, subst, inl, inr, ℕ, zero, suc, ◌+◌, ◌-◌, ◌<◌, ◌≤◌, ◌==◌, ◌||◌, Bool, true, false, not, cond, nat_le, nat_lt, eqb, eqb-true, Option, None, Some, List, [], ◌∷◌, ◌++◌, length, take, slice_get, arith}
+use Rattle.std.proofs.Common.{◌≡◌, ◌∙◌, sym, ap, refl, subst, inl, inr, ℕ, zero, suc, ◌-◌, ◌<◌, ◌≤◌, ◌==◌, ◌||◌, Bool, true, false, not, cond, nat_le, nat_lt, eqb-true, Option, Some, List, [], ◌∷◌, ◌++◌, length, take, slice_get, arith}
 use Rattle.std.specs.List.{AllByRecursion, remove}
 use Rattle.std.specs.Option.{option_map_or}
 use Rattle.std.proofs.lemmas.Bool.{cases_lt}
 use Rattle.std.proofs.lemmas.Bool.Decides.{nat_tests}
 use Rattle.tso_ops.specs.declared.settings.Order.{Order}
 use Rattle.tso_ops.specs.declared.settings.Order.TheVariants.{Tso, Pso}
-use Rattle.run_steps.specs.declared.cells.Cell.{Cell}
 use Rattle.run_steps.specs.declared.cells.Cell.TheVariants.{Stored}
 use Rattle.run_steps.specs.declared.places.Place.{Place}
 use Rattle.run_steps.specs.declared.processors.WaitingStore.{WaitingStore}
 use Rattle.run_steps.specs.declared.steps.RunStep.TheVariants as step
-use Rattle.run_steps.specs.Machine.{ProcessorState, MachineState, draining, drained_number, keeps_back, next_state, processor_in, reaching, waits_of, with_waits}
+use Rattle.run_steps.specs.Machine.{ProcessorState, MachineState, draining, keeps_back, next_state, processor_in, reaching, waits_of, with_waits}
 use Rattle.run_steps.specs.Places.{overlaps}
 use Rattle.run_steps.specs.Widths.{cells_of}
 use Rattle.run_steps.specs.Reads.{with_cell}
 use Rattle.run_steps.specs.Steps.{MayDrain}
-use Rattle.unit_core.specs.declared.steps.Step.{Step}
 use Rattle.unit_core.specs.declared.steps.Step.TheVariants.{Drain, DrainAt}
-use Rattle.unit_core.specs.Machine.{Entry, State, WaitsFirst, after, buffer_of, drained, next, oldest_of, stbars_of}
-use Rattle.embedding.specs.Sizes.{Sizes, IsAllowedIn}
+use Rattle.unit_core.specs.Machine.{Entry, State, buffer_of, drained, oldest_of, stbars_of}
+use Rattle.embedding.specs.Sizes.{Sizes}
 use Rattle.run_orders.specs.RunLogs.{IsLocation}
 use Rattle.run_orders.proofs.Waiting.{entries, entry_by, is_known, kept, oldest_at}
 use Rattle.run_orders.proofs.States.{IsSame, filled_location, other_processor, own_processor, reaching_same, same_after, tag_of}
@@ -173,7 +171,7 @@ module _ (z : Sizes) (unknown : List ℕ) (line p : ℕ) (s : MachineState) (the
               (
                 _,
                 subst (λ n. slice_get (buffer_of u p) n ≡ Some (entry_by own.stbars w)) first
-                (entry_there z unknown line s u m p within parts.older w parts.newer parts.is known),
+                    (entry_there z unknown line s u m p within parts.older w parts.newer parts.is known),
               ),
             ),
             tt,

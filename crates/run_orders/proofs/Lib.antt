@@ -1,7 +1,11 @@
-pub mod Waiting
-pub mod States
-pub mod Matching
-pub mod Moves
-pub mod Told
-pub mod Stepping
-pub mod Drains
+mod Waiting
+mod States
+mod Matching
+mod Moves
+mod Told
+mod Stepping
+mod Drains
+mod LastDrains
+mod Lines
+mod Logs
+mod Orders

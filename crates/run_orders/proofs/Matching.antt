@@ -1,20 +1,17 @@
 -- When a state of the machine of units is that of a run, where operations at some locations are left out, and how both change.
-use Rattle.std.proofs.Common.{◌≡◌, ◌∙◌, sym, ap, refl, subst, inl, inr, ℕ, zero, suc, ◌+◌, ◌<◌, ◌≤◌, Bool, true, false, cond, leb, Option, None, Some, List, [], ◌∷◌, ◌++◌, length, get_or, set, slice_get, slice_index, length-set, le-leb, arith}
+use Rattle.std.proofs.Common.{◌≡◌, ◌∙◌, sym, ap, refl, subst, inl, inr, ℕ, suc, ◌<◌, ◌≤◌, true, false, cond, leb, Some, List, [], ◌∷◌, ◌++◌, length, slice_get, slice_index, le-leb, arith}
 use Rattle.std.specs.List.{AllByRecursion, remove}
-use Rattle.std.proofs.lemmas.Bool.{cases_eq, cases_lt}
+use Rattle.std.proofs.lemmas.Bool.{cases_lt}
 use Rattle.std.proofs.lemmas.Bool.Decides.{nat_tests}
-use Rattle.std.proofs.lemmas.List.{append-nil, get_or-set_same, get_or-set_other}
-use Rattle.run_steps.specs.declared.cells.Cell.{Cell}
-use Rattle.run_steps.specs.declared.cells.Cell.TheVariants.{First, Stored, Unknown}
+use Rattle.std.proofs.lemmas.List.{append-nil}
 use Rattle.run_steps.specs.declared.processors.WaitingStore.{WaitingStore}
 use Rattle.run_steps.specs.Machine.{MachineState, waits_of}
-use Rattle.run_steps.specs.Reads.{Memory, with_cell}
-use Rattle.unit_core.specs.Machine.{Entry, State, buffer_of, drained, stbars_of}
+use Rattle.unit_core.specs.Machine.{Entry, State, buffer_of, stbars_of}
 use Rattle.embedding.specs.Sizes.{Sizes}
-use Rattle.embedding.proofs.Moments.{HasSizes, drained-is}
+use Rattle.embedding.proofs.Moments.{HasSizes}
 use Rattle.run_orders.specs.RunLogs.{IsLocation}
 use Rattle.run_orders.proofs.Waiting.{HasWord, entries, entries-append, entries-same, entry_by, is_known, kept}
-use Rattle.run_orders.proofs.States.{IsSame, tag_of, with_cell_here, with_cell_other}
+use Rattle.run_orders.proofs.States.{tag_of}
 
 -- the tags of stores that wait never fall, and are up to that of the last STBAR
 abbrev pub AreTagged : List WaitingStore → ℕ → Type 0

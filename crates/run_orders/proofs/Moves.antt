@@ -1,19 +1,17 @@
 -- Steps of the machine of units that lead to what a change of the state of a run leads to.
-use Rattle.std.proofs.Common.{◌≡◌, ◌∙◌, sym, ap, refl, subst, inl, inr, ℕ, zero, suc, ◌+◌, ◌<◌, ◌≤◌, Bool, true, false, cond, Option, None, Some, List, [], ◌∷◌, ◌++◌, length, get_or, set, slice_get, slice_index, length-set, arith}
-use Rattle.std.specs.List.{AllByRecursion, remove}
-use Rattle.std.proofs.lemmas.Bool.{cases_eq, cases_lt}
+use Rattle.std.proofs.Common.{◌≡◌, ◌∙◌, sym, ap, subst, inl, inr, ℕ, suc, ◌<◌, ◌≤◌, true, false, Some, List, [], ◌∷◌, ◌++◌, length, get_or, set, slice_get, slice_index, length-set, arith}
+use Rattle.std.specs.List.{remove}
+use Rattle.std.proofs.lemmas.Bool.{cases_eq}
 use Rattle.std.proofs.lemmas.List.{append-nil, get_or-set_same, get_or-set_other}
-use Rattle.tso_ops.specs.declared.settings.Order.{Order}
 use Rattle.run_steps.specs.declared.cells.Cell.{Cell}
-use Rattle.run_steps.specs.declared.cells.Cell.TheVariants.{First, Stored, Unknown}
+use Rattle.run_steps.specs.declared.cells.Cell.TheVariants.{Stored}
 use Rattle.run_steps.specs.declared.processors.WaitingStore.{WaitingStore}
 use Rattle.run_steps.specs.Machine.{MachineState, waits_of}
-use Rattle.run_steps.specs.Reads.{Memory, with_cell}
-use Rattle.unit_core.specs.declared.steps.Step.{Step}
-use Rattle.unit_core.specs.declared.steps.Step.TheVariants.{Store, Drain, DrainAt, Load, Swap, Membar, Stbar}
-use Rattle.unit_core.specs.Machine.{Entry, State, after, buffer_of, drained, next, stbars_of}
-use Rattle.embedding.specs.Sizes.{Sizes, IsAllowedIn, IsRunIn}
-use Rattle.embedding.proofs.Moments.{HasSizes, drained-is}
+use Rattle.run_steps.specs.Reads.{with_cell}
+use Rattle.unit_core.specs.declared.steps.Step.TheVariants.{Store, Swap, Stbar}
+use Rattle.unit_core.specs.Machine.{Entry, State, buffer_of, drained, next, stbars_of}
+use Rattle.embedding.specs.Sizes.{Sizes}
+use Rattle.embedding.proofs.Moments.{drained-is}
 use Rattle.run_orders.specs.RunLogs.{IsLocation}
 use Rattle.run_orders.proofs.Waiting.{HasWord, entries, entry_by, is_known, kept}
 use Rattle.run_orders.proofs.States.{IsSame, tag_of, with_cell_here, with_cell_other}

@@ -1,5 +1,5 @@
 -- What states of the machine of runs have of each processor, after changes of one.
-use Rattle.std.proofs.Common.{◌≡◌, ◌∙◌, sym, ap, refl, subst, ℕ, zero, suc, ◌+◌, ◌-◌, ◌<◌, ◌≤◌, ◌==◌, Bool, true, false, cond, nat_eq, Option, None, Some, List, [], ◌∷◌, ◌++◌, length, map, get_or, set, replicate, length-append, arith}
+use Rattle.std.proofs.Common.{◌≡◌, ◌∙◌, ap, refl, ℕ, zero, suc, ◌-◌, ◌<◌, ◌==◌, Bool, true, false, cond, Option, List, [], ◌∷◌, ◌++◌, length, map, get_or, set, replicate, length-append, arith}
 use Rattle.std.proofs.lemmas.Bool.{eq-eqb, ne_eqb}
 use Rattle.std.proofs.lemmas.List.{get_or-set_same, get_or-set_other, length-replicate}
 use Rattle.run_steps.specs.declared.cells.Cell.{Cell}
@@ -7,7 +7,7 @@ use Rattle.run_steps.specs.declared.places.Place.{Place}
 use Rattle.run_steps.specs.declared.processors.Reservation.{Reservation}
 use Rattle.run_steps.specs.declared.processors.Taken.{Taken}
 use Rattle.run_steps.specs.declared.processors.WaitingStore.{WaitingStore}
-use Rattle.run_steps.specs.Machine.{ProcessorState, MachineState, admitted, idle, processor_in, processors_after, reaching, waits_of, with_processor, with_reserved, with_waits, without_reserved}
+use Rattle.run_steps.specs.Machine.{ProcessorState, MachineState, admitted, idle, processor_in, processors_after, reaching, waits_of, with_processor, with_reserved, without_reserved}
 use Rattle.run_steps.specs.Places.{cell_parts}
 use Rattle.run_steps.specs.Reads.{Memory, filled, with_cell}
 use Rattle.run_orders.specs.RunLogs.{IsLocation}

@@ -1,22 +1,18 @@
 -- Each step of a run but a drain is matched by steps of the machine of units.
-use Rattle.std.proofs.Common.{◌≡◌, ◌∙◌, sym, ap, refl, subst, inl, inr, ℕ, zero, suc, ◌+◌, ◌<◌, ◌≤◌, Bool, true, false, cond, Option, None, Some, List, [], ◌∷◌, ◌++◌, length, get_or, slice_get, slice_index, arith}
-use Rattle.tso_ops.specs.declared.ops.Outcome.{Outcome}
+use Rattle.std.proofs.Common.{◌≡◌, ◌∙◌, sym, ap, refl, ℕ, suc, ◌<◌, Bool, true, false, List, [], ◌∷◌, ◌++◌, length, slice_index, arith}
 use Rattle.tso_ops.specs.declared.ops.Outcome.TheVariants.{Ld, St, Sw, Mb, Sb}
 use Rattle.tso_ops.specs.declared.settings.Order.{Order}
-use Rattle.run_steps.specs.declared.cells.Cell.{Cell}
 use Rattle.run_steps.specs.declared.cells.Cell.TheVariants.{Stored}
-use Rattle.run_steps.specs.declared.cells.Cell.TheVariants as cell
 use Rattle.run_steps.specs.declared.places.Place.{Place}
 use Rattle.run_steps.specs.declared.processors.WaitingStore.{WaitingStore}
 use Rattle.run_steps.specs.Machine.{ProcessorState, MachineState, processor_in, view_of, waits_of, with_processor, with_store}
 use Rattle.run_steps.specs.Reads.{sees, with_cell}
 use Rattle.run_steps.specs.Steps.{IsRead}
-use Rattle.unit_core.specs.declared.steps.Step.{Step}
-use Rattle.unit_core.specs.declared.steps.Step.TheVariants.{Store, Drain, DrainAt, Load, Swap, Membar, Stbar}
-use Rattle.unit_core.specs.Machine.{Entry, State, after, buffer_of, newest, next, seen_by, stbars_of}
-use Rattle.embedding.specs.Sizes.{Sizes, IsAllowedIn, IsRunIn}
+use Rattle.unit_core.specs.declared.steps.Step.TheVariants.{Store, Drain, Load, Swap, Membar, Stbar}
+use Rattle.unit_core.specs.Machine.{State, buffer_of, newest, next, seen_by, stbars_of}
+use Rattle.embedding.specs.Sizes.{Sizes}
 use Rattle.run_orders.specs.RunLogs.{IsLocation}
-use Rattle.run_orders.proofs.Waiting.{entries, entry_by, is_known, read_location, value_of_cell}
+use Rattle.run_orders.proofs.Waiting.{entries, is_known, read_location, value_of_cell}
 use Rattle.run_orders.proofs.States.{IsSame, other_processor, own_processor, tag_of}
 use Rattle.run_orders.proofs.Matching.{IsBuffer, Matches}
 use Rattle.run_orders.proofs.Moves.{entry_there, match_drain, match_kept, match_later, match_stbar, match_store, match_store_unknown, match_stored_unknown, match_swap}

@@ -1,5 +1,5 @@
 -- What a step of a run says to a log, and what steps of the machine of units answer for it.
-use Rattle.std.proofs.Common.{◌≡◌, ◌∙◌, sym, ap, refl, ℕ, Bool, true, false, cond, Option, None, Some, List, [], ◌∷◌, ◌++◌, filter_map, eq-eqb, ne_eqb}
+use Rattle.std.proofs.Common.{◌≡◌, ◌∙◌, sym, ap, refl, ℕ, Bool, cond, None, List, [], ◌∷◌, filter_map, if◌then◌else◌, eq-eqb, ne_eqb}
 use Rattle.std.specs.List.{AllByRecursion, cons_option}
 use Rattle.tso_ops.specs.declared.ops.Outcome.{Outcome}
 use Rattle.tso_ops.specs.declared.ops.Outcome.TheVariants.{Ld, St, Sw, Mb, Sb}
@@ -15,8 +15,7 @@ use Rattle.run_orders.proofs.Waiting.{is_known}
 
 -- the operation, where its location is known
 abbrev pub when_known : Bool → Outcome → List Outcome
-when_known true o = o ∷ []
-when_known false o = []
+when_known b o = if b then o ∷ [] else []
 
 -- the operation that a step says to a log
 abbrev pub outcomes_told : List ℕ → RunStep → List Outcome

@@ -1,5 +1,5 @@
 -- The entries that waiting stores are in a buffer, where operations at some locations are left out, and what is read of them.
-use Rattle.std.proofs.Common.{◌≡◌, ◌∙◌, sym, ap, refl, subst, ℕ, zero, suc, ◌+◌, ◌-◌, ◌<◌, ◌≤◌, ◌&&◌, inl, inr, Bool, true, false, not, cond, nat_eq, nat_le, nat_lt, eqb, Option, None, Some, option_map, List, [], ◌∷◌, ◌++◌, length, get_or, append_assoc, arith}
+use Rattle.std.proofs.Common.{◌≡◌, ◌∙◌, sym, ap, refl, ℕ, suc, ◌-◌, ◌&&◌, inl, inr, Bool, true, false, not, cond, nat_eq, nat_le, nat_lt, Option, None, Some, option_map, List, [], ◌∷◌, ◌++◌, length, get_or, append_assoc, arith}
 use Rattle.std.specs.List.{AllByRecursion, list_any}
 use Rattle.std.proofs.lemmas.Bool.{cases_eq, eq-eqb, ne_eqb}
 use Rattle.std.proofs.lemmas.Bool.Decides.{nat_tests}
@@ -9,8 +9,8 @@ use Rattle.run_steps.specs.declared.places.Place.{Place}
 use Rattle.run_steps.specs.declared.processors.WaitingStore.{WaitingStore}
 use Rattle.run_steps.specs.declared.refusals.CellContent.{CellContent}
 use Rattle.run_steps.specs.Places.{cell_parts, covers}
-use Rattle.run_steps.specs.Widths.{cells_of, low_part}
-use Rattle.run_steps.specs.Reads.{Memory, joined_cells, newest_over, read_in, seen_before, seen_in, seen_of, sees}
+use Rattle.run_steps.specs.Widths.{cells_of}
+use Rattle.run_steps.specs.Reads.{Memory, joined_cells, newest_over, read_in, seen_before, seen_in, sees}
 use Rattle.unit_core.specs.Machine.{Entry, newest, oldest_of}
 use Rattle.run_orders.specs.RunLogs.{IsLocation}
 

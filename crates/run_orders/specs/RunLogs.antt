@@ -1,5 +1,5 @@
 -- Which logs have the lines of a run, and how runs start.
-use Rattle.std.specs.Prelude.{◌≡◌, ℕ, ◌<◌, List, [], ◌∷◌, map, filter, Option, None, Some}
+use Rattle.std.specs.Prelude.{◌≡◌, ℕ, ◌<◌, List, [], ◌∷◌, map, filter, None, Some}
 use Rattle.std.specs.List.{AllByRecursion}
 use Rattle.tso_ops.specs.Settings.{first_value}
 use Rattle.run_steps.specs.declared.cells.Cell.TheVariants.{First}
