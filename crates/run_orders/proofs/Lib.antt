@@ -1,11 +1,11 @@
-mod Waiting
-mod States
-mod Matching
-mod Moves
-mod Told
-mod Stepping
-mod Drains
-mod LastDrains
-mod Lines
-mod Logs
-mod Orders
+pub mod Waiting
+pub mod States
+pub mod Matching
+pub mod Moves
+pub mod Told
+pub mod Stepping
+pub mod Drains
+pub mod LastDrains
+pub mod Lines
+pub mod Logs
+pub mod Orders
