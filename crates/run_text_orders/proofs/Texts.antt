@@ -1,13 +1,19 @@
 -- The text of a run that holds, as a log, has an order.
-use Rattle.std.proofs.Common.{◌≡◌, ◌∙◌, sym, ap, refl, subst, ℕ, Bool, Result, Ok, Err, List, [], ◌∷◌, ◌++◌, map, append_assoc, append-nil}
+use Rattle.std.proofs.Common.{◌≡◌, ◌≢◌, ◌∙◌, inl, inr, sym, ap, refl, subst, ℕ, Bool, true, false, nat_lt, if◌then◌else◌, length, arith, Result, Ok, Err, List, [], ◌∷◌, ◌++◌, map, append_assoc, append-nil}
+use Rattle.std.proofs.lemmas.Bool.Decides.{nat_tests}
 use Rattle.std.proofs.lemmas.List.{append_cancel_right}
 use Rattle.tso_text.specs.declared.faults.Why.{Why}
 use Rattle.tso_model.specs.Axioms.{IsConsistent}
+use Rattle.request_options.specs.declared.following.FollowOptions.{FollowOptions}
+use Rattle.trace_reports.specs.Renderings.{RendersRefusal}
+use Rattle.trace_reports.specs.declared.answers.Answer.{Answer}
+use Rattle.trace_reports.specs.declared.answers.Answer.TheVariants.{Clear, Refused, Undecided, Violation}
 use Rattle.run_steps.specs.Runs.{HoldsFrom}
 use Rattle.run_steps.proofs.RunFacts.{holds_exactly}
 use Rattle.run_lines.specs.declared.arguments.Widths.TheVariants.{Locations}
 use Rattle.run_lines.specs.Lines.{LineNumbers, line_read, text_numbers}
 use Rattle.run_following.specs.Accounts.{Account, IsAccepted, account_at_start}
+use Rattle.run_following.specs.Reports.{IsRunReport, RendersRun}
 use Rattle.run_following.specs.Runs.{LeadsTo, SpellsRun}
 use Rattle.log_text.specs.declared.lines.LogLine.{LogLine}
 use Rattle.log_text.specs.LogLines.{line_said, line_told, result_told}
@@ -69,3 +75,29 @@ text_order needs_end text account log run none spells =
     let said : map line_said account.texts ≡ map Ok spells.lines = ap (map line_said) same ∙ spells.said.said in
     let accounts = all_lines account.texts spells.lines [] account_at_start account at_start run.leads said in
     subst (λ l. IsConsistent (log_operations l)) (sym spells.is) (log_order spells.lines accounts.first account.steps (held spells.lines account accounts none))
+
+-- ---- what is reported of a run
+
+none_of_length : {X : Type 0} (xs : List X) → length xs ≡ 0 → xs ≡ []
+none_of_length [] e = refl
+none_of_length (x ∷ xs) e = absurd (omega (arith, e))
+
+-- an answer that is no violation is of no refusals
+clear_of : (some compared : Bool) (answer : Answer) → answer ≡ (if some then Violation else if compared then Clear else Undecided) → answer ≢ Violation → some ≡ false
+clear_of true compared answer is other = absurd (other is)
+clear_of false compared answer is other = refl
+
+none_counted : (n : ℕ) → nat_lt 0 n ≡ false → n ≡ 0
+none_counted n e = grind (arith, nat_tests)
+
+pub report_order : (renders : RendersRun) (refused : RendersRefusal) (options : FollowOptions) (bytes text : List ℕ) (answer : Answer) (log : NumberedLog) →
+    IsRunReport renders refused options bytes text answer → answer ≢ Violation → answer ≢ Refused → SpellsLog bytes log → IsConsistent (log_operations log)
+report_order renders refused options bytes text answer log (inl (account, followed, report)) no_violation no_refusal spells =
+    let count : report.found.refusals ≡ 0 =
+    none_counted report.found.refusals (clear_of (nat_lt 0 report.found.refusals) report.found.is_compared answer report.gives no_violation) in
+    let none : account.refusals ≡ [] = none_of_length account.refusals (sym report.is.refusals ∙ count) in
+    elim followed [
+      | inl whole ↦ text_order options.needs_end bytes account log whole.0 none spells
+      | inr part ↦ absurd (part.1.refused none)
+    ]
+report_order renders refused options bytes text answer log (inr refusal) no_violation no_refusal spells = absurd (no_refusal refusal.gives)

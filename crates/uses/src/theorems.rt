@@ -6,6 +6,8 @@ use completeness::outcomes::outcomes_are_consistent_traces;
 use completeness::runs::consistent_traces_have_runs;
 use embedding::laws::complete_runs_have_orders;
 use order_paths::laws::edge_is_path;
+use run_orders::laws::runs_have_orders;
+use run_text_orders::laws::texts_of_runs_have_orders;
 
 /// A law of each crate.
 pub fn cite_the_theorems() {
@@ -15,4 +17,6 @@ pub fn cite_the_theorems() {
     evidence_decides();
     consistent_traces_have_runs();
     outcomes_are_consistent_traces();
+    runs_have_orders();
+    texts_of_runs_have_orders();
 }
