@@ -23,7 +23,7 @@ use Rattle.embedding.proofs.Numbers.{event_located, events_follow, past_of}
 use Rattle.embedding.proofs.Steps.{allowed_in}
 use Rattle.embedding.proofs.Walk.{last_moment, walk}
 
-same_or : {X : Type 0} (n p : ℕ) (x : X) → get_or (replicate n x) p x ≡ x
+pub same_or : {X : Type 0} (n p : ℕ) (x : X) → get_or (replicate n x) p x ≡ x
 same_or zero p x = refl
 same_or (suc n) zero x = refl
 same_or (suc n) (suc p) x = same_or n p x

@@ -1,8 +1,8 @@
 -- A drain of a run is matched by one of the machine of units, where the location is known.
-use Rattle.std.proofs.Common.{◌≡◌, ◌∙◌, sym, ap, refl, subst, inl, inr, ℕ, zero, suc, ◌-◌, ◌<◌, ◌≤◌, ◌==◌, ◌||◌, Bool, true, false, not, cond, nat_le, nat_lt, eqb-true, Option, Some, List, [], ◌∷◌, ◌++◌, length, take, slice_get, arith}
+use Rattle.std.proofs.Common.{◌≡◌, ◌∙◌, sym, ap, refl, subst, inl, inr, ℕ, zero, suc, ◌-◌, ◌<◌, ◌≤◌, ◌==◌, Bool, true, false, not, cond, nat_le, nat_lt, eqb-true, Option, Some, List, [], ◌∷◌, ◌++◌, length, take, slice_get, arith}
 use Rattle.std.specs.List.{AllByRecursion, remove}
 use Rattle.std.specs.Option.{option_map_or}
-use Rattle.std.proofs.lemmas.Bool.{cases_lt}
+use Rattle.std.proofs.lemmas.Bool.{cases_lt, not-false, or_parts}
 use Rattle.std.proofs.lemmas.Bool.Decides.{nat_tests}
 use Rattle.tso_ops.specs.declared.settings.Order.{Order}
 use Rattle.tso_ops.specs.declared.settings.Order.TheVariants.{Tso, Pso}
@@ -19,9 +19,10 @@ use Rattle.unit_core.specs.declared.steps.Step.TheVariants.{Drain, DrainAt}
 use Rattle.unit_core.specs.Machine.{Entry, State, buffer_of, drained, oldest_of, stbars_of}
 use Rattle.embedding.specs.Sizes.{Sizes}
 use Rattle.run_orders.specs.RunLogs.{IsLocation}
+use Rattle.run_orders.proofs.Lists.{all-append, all-parts, all_both, all_map}
 use Rattle.run_orders.proofs.Waiting.{entries, entry_by, is_known, kept, oldest_at}
 use Rattle.run_orders.proofs.States.{IsSame, filled_location, other_processor, own_processor, reaching_same, same_after, tag_of}
-use Rattle.run_orders.proofs.Matching.{AreTagged, IsBuffer, Matches, all-append, all-parts, newer_tags}
+use Rattle.run_orders.proofs.Matching.{AreTagged, IsBuffer, Matches, newer_tags}
 use Rattle.run_orders.proofs.Moves.{buffer_known, entry_there, match_drain, match_drain_unknown, match_later}
 use Rattle.run_orders.proofs.Told.{Matched}
 
@@ -48,24 +49,7 @@ parted_at (x ∷ xs) (suc k) y read =
       taken = ap (λ zs. x ∷ zs) rest.taken;
     }
 
-all_map : {X : Type 0} (P Q : X → Type 0) → ((x : X) → P x → Q x) → (xs : List X) → AllByRecursion P xs → AllByRecursion Q xs
-all_map P Q change [] all = tt
-all_map P Q change (x ∷ xs) all = (change x all.0, all_map P Q change xs all.1)
-
--- both facts hold of each
-all_both : {X : Type 0} (P Q R : X → Type 0) → ((x : X) → P x → Q x → R x) → (xs : List X) → AllByRecursion P xs → AllByRecursion Q xs → AllByRecursion R xs
-all_both P Q R change [] first second = tt
-all_both P Q R change (x ∷ xs) first second = (change x first.0 second.0, all_both P Q R change xs first.1 second.1)
-
 -- ---- which stores keep one back
-
-either_false : (b c : Bool) → (b || c) ≡ false → (b ≡ false) × (c ≡ false)
-either_false false c e = (refl, e)
-either_false true c e = absurd cc
-
-not_false : (b : Bool) → not b ≡ false → b ≡ true
-not_false true e = refl
-not_false false e = absurd cc
 
 shares : (a b width other : ℕ) → width ≡ 0 → a ≡ b → cond (nat_le a b) (nat_lt (b - a) (cells_of width)) (nat_lt (a - b) (cells_of other)) ≡ true
 shares a b width other none same =
@@ -74,13 +58,13 @@ shares a b width other none same =
 
 other_locations : (w x : WaitingStore) → IsLocation x.place → keeps_back Pso w x ≡ false → x.place.address ≡ w.place.address → ⊥
 other_locations w x location passes same =
-    let apart = (either_false (overlaps x.place w.place) (not (x.stbar == w.stbar)) passes).0 in
+    let apart = (or_parts (overlaps x.place w.place) (not (x.stbar == w.stbar)) passes).0 in
     let here : overlaps x.place w.place ≡ true = shares x.place.address w.place.address x.place.width w.place.width location same in
     absurd cc
 
 same_tags : (w x : WaitingStore) → keeps_back Pso w x ≡ false → w.stbar ≤ x.stbar
 same_tags w x passes =
-    let same : x.stbar ≡ w.stbar = eqb-true x.stbar w.stbar (not_false (x.stbar == w.stbar) (either_false (overlaps x.place w.place) (not (x.stbar == w.stbar)) passes).1) in
+    let same : x.stbar ≡ w.stbar = eqb-true x.stbar w.stbar (not-false (x.stbar == w.stbar) (or_parts (overlaps x.place w.place) (not (x.stbar == w.stbar)) passes).1) in
     omega (arith, same)
 
 none_older : (w : WaitingStore) (older : List WaitingStore) → AllByRecursion (λ x. keeps_back Tso w x ≡ false) older → older ≡ []

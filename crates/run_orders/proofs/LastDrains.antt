@@ -11,7 +11,7 @@ use Rattle.unit_core.specs.Machine.{Entry, State, HasProcessors, after, buffer_o
 use Rattle.unit_core.proofs.RunFacts.{after-append, next-other}
 use Rattle.embedding.specs.Sizes.{Sizes, IsAllowedIn, IsRunIn}
 use Rattle.embedding.proofs.Moments.{HasSizes, drained-is, next-sizes}
-use Rattle.run_orders.proofs.Matching.{all-append}
+use Rattle.run_orders.proofs.Lists.{all-append}
 
 pub run-append : (z : Sizes) (order : Order) (u : State) (xs ys : List Step) → IsRunIn z order u xs → IsRunIn z order (after u xs) ys → IsRunIn z order u (xs ++ ys)
 run-append z order u [] ys first second = second

@@ -1,3 +1,4 @@
+pub mod Lists
 pub mod Waiting
 pub mod States
 pub mod Matching

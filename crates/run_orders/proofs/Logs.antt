@@ -2,7 +2,9 @@
 use Rattle.std.proofs.Common.{◌≡◌, ◌∙◌, sym, ap, refl, ℕ, zero, suc, ◌+◌, ◌<◌, ◌≤◌, ◌||◌, max, Bool, true, false, not, cond, nat_eq, ◌==◌, if◌then◌else◌, List, [], ◌∷◌, ◌++◌, map, filter, flat_map, eq-eqb, arith}
 use Rattle.std.specs.List.{AllByRecursion, list_any, range_with_len}
 use Rattle.std.proofs.lemmas.List.{map-append}
+use Rattle.std.proofs.Math.Bool.{or-true}
 use Rattle.std.proofs.lemmas.List.Elements.{filter-append}
+use Rattle.std.proofs.lemmas.List.Folds.{list_any-append}
 use Rattle.tso_ops.specs.declared.ops.Outcome.{Outcome}
 use Rattle.run_steps.specs.declared.steps.RunLine.{RunLine}
 use Rattle.run_steps.specs.declared.steps.RunStep.{RunStep}
@@ -166,21 +168,11 @@ words_for (line ∷ lines) = suc (address_in line.step) + words_for lines
 abbrev AreUnknown : List ℕ → List ℕ → Type 0
 AreUnknown unknown some = (a : ℕ) → list_any (nat_eq a) some ≡ true → list_any (nat_eq a) unknown ≡ true
 
-either_left : (b c d : Bool) → (c ≡ true → d ≡ true) → (b || c) ≡ true → (b || d) ≡ true
-either_left true c d rest e = refl
-either_left false c d rest e = rest e
-
 any_left : (test : ℕ → Bool) (xs ys : List ℕ) → list_any test xs ≡ true → list_any test (xs ++ ys) ≡ true
-any_left test [] ys is = absurd cc
-any_left test (x ∷ xs) ys is = either_left (test x) (list_any test xs) (list_any test (xs ++ ys)) (any_left test xs ys) is
+any_left test xs ys is = list_any-append test xs ys ∙ ap (λ b. b || list_any test ys) is
 
 any_right : (test : ℕ → Bool) (xs ys : List ℕ) → list_any test ys ≡ true → list_any test (xs ++ ys) ≡ true
-any_right test [] ys is = is
-any_right test (x ∷ xs) ys is = ap (λ b. test x || b) (any_right test xs ys is) ∙ or_true (test x)
-  where
-    or_true : (b : Bool) → (b || true) ≡ true
-    or_true true = refl
-    or_true false = refl
+any_right test xs ys is = list_any-append test xs ys ∙ ap (λ b. list_any test xs || b) is ∙ or-true (list_any test xs)
 
 step_suits : (z : Sizes) (unknown : List ℕ) (p : ℕ) (step : RunStep) → processors_to (step_told p (step_word step) (numbers_of_step step)) ≤ z.buffers →
     address_in step < z.words → AreUnknown unknown (unknown_in (step_told p (step_word step) (numbers_of_step step))) → Suits z unknown p step

@@ -1,6 +1,6 @@
 -- When a state of the machine of units is that of a run, where operations at some locations are left out, and how both change.
-use Rattle.std.proofs.Common.{◌≡◌, ◌∙◌, sym, ap, refl, subst, inl, inr, ℕ, suc, ◌<◌, ◌≤◌, true, false, cond, leb, Some, List, [], ◌∷◌, ◌++◌, length, slice_get, slice_index, le-leb, arith}
-use Rattle.std.specs.List.{AllByRecursion, remove}
+use Rattle.std.proofs.Common.{◌≡◌, ◌∙◌, sym, ap, subst, inl, inr, ℕ, suc, ◌<◌, ◌≤◌, true, false, cond, leb, List, [], ◌∷◌, ◌++◌, slice_index, le-leb, arith}
+use Rattle.std.specs.List.{AllByRecursion}
 use Rattle.std.proofs.lemmas.Bool.{cases_lt}
 use Rattle.std.proofs.lemmas.Bool.Decides.{nat_tests}
 use Rattle.std.proofs.lemmas.List.{append-nil}
@@ -10,6 +10,7 @@ use Rattle.unit_core.specs.Machine.{Entry, State, buffer_of, stbars_of}
 use Rattle.embedding.specs.Sizes.{Sizes}
 use Rattle.embedding.proofs.Moments.{HasSizes}
 use Rattle.run_orders.specs.RunLogs.{IsLocation}
+use Rattle.run_orders.proofs.Lists.{all-append, all-parts}
 use Rattle.run_orders.proofs.Waiting.{HasWord, entries, entries-append, entries-same, entry_by, is_known, kept}
 use Rattle.run_orders.proofs.States.{tag_of}
 
@@ -35,25 +36,6 @@ pub record Matches (z : Sizes) (unknown : List ℕ) (line : ℕ) (s : MachineSta
   pub memory : (a : ℕ) → is_known unknown a ≡ true → a < z.words → HasWord (s.memory a) (slice_index u.memory a)
   pub buffers : (p : ℕ) → IsBuffer unknown line (waits_of s p) (tag_of s p) (buffer_of u p) (stbars_of u p)
   pub idle : (p : ℕ) → z.buffers ≤ p → waits_of s p ≡ []
-
--- ---- lists
-
-pub all-append : {X : Type 0} (P : X → Type 0) (xs ys : List X) → AllByRecursion P xs → AllByRecursion P ys → AllByRecursion P (xs ++ ys)
-all-append P [] ys first second = second
-all-append P (x ∷ xs) ys first second = (first.0, all-append P xs ys first.1 second)
-
--- those of two parts, without the element between them
-pub all-parts : {X : Type 0} (P : X → Type 0) (xs : List X) (y : X) (ys : List X) → AllByRecursion P (xs ++ y ∷ ys) → AllByRecursion P xs × P y × AllByRecursion P ys
-all-parts P [] y ys all = (tt, all.0, all.1)
-all-parts P (x ∷ xs) y ys all = let rest = all-parts P xs y ys all.1 in ((all.0, rest.0), rest.1, rest.2)
-
-pub remove_between : {X : Type 0} (xs : List X) (y : X) (ys : List X) → remove (xs ++ y ∷ ys) (length xs) ≡ xs ++ ys
-remove_between [] y ys = refl
-remove_between (x ∷ xs) y ys = ap (λ zs. x ∷ zs) (remove_between xs y ys)
-
-pub get_between : {X : Type 0} (xs : List X) (y : X) (ys : List X) → slice_get (xs ++ y ∷ ys) (length xs) ≡ Some y
-get_between [] y ys = refl
-get_between (x ∷ xs) y ys = get_between xs y ys
 
 -- the entry that a store is after so many STBARs
 abbrev pub stored : WaitingStore → ℕ → Entry

@@ -13,9 +13,10 @@ use Rattle.unit_core.specs.Machine.{Entry, State, buffer_of, drained, next, stba
 use Rattle.embedding.specs.Sizes.{Sizes}
 use Rattle.embedding.proofs.Moments.{drained-is}
 use Rattle.run_orders.specs.RunLogs.{IsLocation}
+use Rattle.run_orders.proofs.Lists.{get_between, remove_between}
 use Rattle.run_orders.proofs.Waiting.{HasWord, entries, entry_by, is_known, kept}
 use Rattle.run_orders.proofs.States.{IsSame, tag_of, with_cell_here, with_cell_other}
-use Rattle.run_orders.proofs.Matching.{IsBuffer, Matches, buffer-later, buffer-push, buffer-remove, buffer-stbar, buffer_parted, get_between, remove_between, stored}
+use Rattle.run_orders.proofs.Matching.{IsBuffer, Matches, buffer-later, buffer-push, buffer-remove, buffer-stbar, buffer_parted, stored}
 
 module _ (z : Sizes) (unknown : List ℕ) (line : ℕ) (s : MachineState) (u : State) (m : Matches z unknown line s u) where
   -- the buffer of a processor of which a state has the same

@@ -16,10 +16,10 @@ use Rattle.unit_core.specs.Machine.{State, after, buffer_of, outcome_for, outcom
 use Rattle.unit_core.proofs.RunFacts.{after-append}
 use Rattle.embedding.specs.Sizes.{Sizes, IsCompleteRunIn, first_state_in}
 use Rattle.embedding.specs.RunOrder.{memory_order_in}
-use Rattle.embedding.proofs.RunOrderFacts.{run_order_in}
+use Rattle.embedding.proofs.RunOrderFacts.{run_order_in, same_or}
 use Rattle.run_orders.specs.RunLogs.{IsHeldRun}
 use Rattle.run_orders.proofs.Waiting.{HasWord}
-use Rattle.run_orders.proofs.States.{same_or, tag_of}
+use Rattle.run_orders.proofs.States.{tag_of}
 use Rattle.run_orders.proofs.Matching.{IsBuffer, Matches}
 use Rattle.run_orders.proofs.LastDrains.{Emptied, empty_all, run-append, run_within, silent_outcomes}
 use Rattle.run_orders.proofs.Lines.{RunMatched, run_matched}

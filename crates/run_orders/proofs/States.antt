@@ -10,6 +10,7 @@ use Rattle.run_steps.specs.declared.processors.WaitingStore.{WaitingStore}
 use Rattle.run_steps.specs.Machine.{ProcessorState, MachineState, admitted, idle, processor_in, processors_after, reaching, waits_of, with_processor, with_reserved, without_reserved}
 use Rattle.run_steps.specs.Places.{cell_parts}
 use Rattle.run_steps.specs.Reads.{Memory, filled, with_cell}
+use Rattle.embedding.proofs.RunOrderFacts.{same_or}
 use Rattle.run_orders.specs.RunLogs.{IsLocation}
 use Rattle.run_orders.proofs.Waiting.{parts_whole}
 
@@ -25,11 +26,6 @@ pub same_after : (r t s : MachineState) (q : ℕ) → IsSame r t q → IsSame t 
 same_after r t s q first second = (first.0 ∙ second.0, first.1 ∙ second.1)
 
 -- ---- a processor that is given a place
-
-pub same_or : {X : Type 0} (n p : ℕ) (x : X) → get_or (replicate n x) p x ≡ x
-same_or zero p x = refl
-same_or (suc n) zero x = refl
-same_or (suc n) (suc p) x = same_or n p x
 
 padded : {X : Type 0} (xs : List X) (n q : ℕ) (x : X) → get_or (xs ++ replicate n x) q x ≡ get_or xs q x
 padded [] n q x = same_or n q x

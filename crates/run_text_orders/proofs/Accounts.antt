@@ -35,7 +35,7 @@ use Rattle.log_text.specs.LogTexts.{entries_in, first_values, is_model, is_step,
 use Rattle.log_text.proofs.FirstFacts.{last_counts, others_stay}
 use Rattle.log_text.proofs.ReadingFacts.{first-push, order_of-push}
 use Rattle.run_orders.specs.RunLogs.{AreNumberedAbove, IsAtLocation, IsLocation, told}
-use Rattle.run_orders.proofs.Matching.{all-append}
+use Rattle.run_orders.proofs.Lists.{all-append, all_map}
 use Rattle.run_orders.proofs.States.{filled_location, with_cell_here, with_cell_other}
 use Rattle.run_text_orders.proofs.Readings.{IsLineWidthless}
 
@@ -80,10 +80,6 @@ numbers-push : (least : ℕ) (lines : List RunLine) (line : RunLine) → AreNumb
     AllByRecursion (λ other. other.number < line.number) lines → AreNumberedAbove least (lines ++ line ∷ [])
 numbers-push least [] line numbers above all = (above, tt)
 numbers-push least (other ∷ lines) line numbers above all = (numbers.0, numbers-push other.number lines line numbers.1 all.0 all.1)
-
-all_map : {X : Type 0} (P Q : X → Type 0) → ((x : X) → P x → Q x) → (xs : List X) → AllByRecursion P xs → AllByRecursion Q xs
-all_map P Q change [] all = tt
-all_map P Q change (x ∷ xs) all = (change x all.0, all_map P Q change xs all.1)
 
 -- ---- what a line may be
 
