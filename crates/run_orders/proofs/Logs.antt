@@ -20,7 +20,7 @@ use Rattle.log_text.specs.LogValues.{logged_outcome, logged_outcomes}
 use Rattle.unit_core.specs.declared.steps.Step.{Step}
 use Rattle.unit_core.specs.Machine.{lists_from, outcomes_of}
 use Rattle.embedding.specs.Sizes.{Sizes}
-use Rattle.run_orders.specs.RunLogs.{told}
+use Rattle.run_orders.specs.RunLogs.{logged_line}
 use Rattle.run_orders.proofs.Told.{outcomes_told}
 use Rattle.run_orders.proofs.Lines.{Suits, told_to}
 
@@ -120,14 +120,14 @@ step_said unknown p q Stbar = refl
 step_said unknown p q (Unknown place) = either_none (p == q)
 step_said unknown p q (Last place v) = either_none (p == q)
 
-told_said : (unknown : List ℕ) (p : ℕ) (lines : List RunLine) → flat_map (said_in unknown p) (map told lines) ≡ told_to unknown p lines
+told_said : (unknown : List ℕ) (p : ℕ) (lines : List RunLine) → flat_map (said_in unknown p) (map logged_line lines) ≡ told_to unknown p lines
 told_said unknown p [] = refl
 told_said unknown p (line ∷ lines) =
-    ap (λ os. os ++ flat_map (said_in unknown p) (map told lines)) (step_said unknown p line.processor line.step)
+    ap (λ os. os ++ flat_map (said_in unknown p) (map logged_line lines)) (step_said unknown p line.processor line.step)
     ∙ ap (λ os. cond (p == line.processor) (outcomes_told unknown line.step) [] ++ os) (told_said unknown p lines)
 
 -- the log has of a processor what the run's lines say
-pub logged_told : (log_lines : List LogLine) (lines : List RunLine) (p : ℕ) → filter is_step log_lines ≡ map told lines →
+pub logged_told : (log_lines : List LogLine) (lines : List RunLine) (p : ℕ) → filter is_step log_lines ≡ map logged_line lines →
     logged_outcomes (issued_by log_lines p) ≡ told_to (flat_map unknown_in log_lines) p lines
 logged_told log_lines lines p steps =
     let unknown = flat_map unknown_in log_lines in
@@ -190,12 +190,12 @@ step_suits z unknown p (Unknown place) below small among =
     (omega (arith, below), ap not (among place.address here))
 step_suits z unknown p (Last place v) below small among = tt
 
-pub lines_suit : (z : Sizes) (unknown : List ℕ) (lines : List RunLine) → processors_in (map told lines) ≤ z.buffers → words_for lines ≤ z.words →
-    AreUnknown unknown (flat_map unknown_in (map told lines)) → AllByRecursion (λ line. Suits z unknown line.processor line.step) lines
+pub lines_suit : (z : Sizes) (unknown : List ℕ) (lines : List RunLine) → processors_in (map logged_line lines) ≤ z.buffers → words_for lines ≤ z.words →
+    AreUnknown unknown (flat_map unknown_in (map logged_line lines)) → AllByRecursion (λ line. Suits z unknown line.processor line.step) lines
 lines_suit z unknown [] below small among = tt
 lines_suit z unknown (line ∷ lines) below small among = (
   step_suits z unknown line.processor line.step (omega (arith, below)) (omega (arith, small))
-      (λ a is. among a (any_left (nat_eq a) (unknown_in (told line)) (flat_map unknown_in (map told lines)) is)),
+      (λ a is. among a (any_left (nat_eq a) (unknown_in (logged_line line)) (flat_map unknown_in (map logged_line lines)) is)),
   lines_suit z unknown lines (omega (arith, below)) (omega (arith, small))
-      (λ a is. among a (any_right (nat_eq a) (unknown_in (told line)) (flat_map unknown_in (map told lines)) is)),
+      (λ a is. among a (any_right (nat_eq a) (unknown_in (logged_line line)) (flat_map unknown_in (map logged_line lines)) is)),
 )

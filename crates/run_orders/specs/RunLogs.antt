@@ -15,8 +15,8 @@ use Rattle.log_text.specs.LogLines.{step_told}
 use Rattle.log_text.specs.LogTexts.{first_values, is_step, order_of}
 
 -- what a line of a run says to a log
-abbrev pub told : RunLine → LogLine
-told line = step_told line.processor (step_word line.step) (numbers_of_step line.step)
+abbrev pub logged_line : RunLine → LogLine
+logged_line line = step_told line.processor (step_word line.step) (numbers_of_step line.step)
 
 -- the place is a location: it has no width
 abbrev pub IsLocation : Place → Type 0
@@ -45,7 +45,7 @@ AreNumberedAbove number (line ∷ lines) = (number < line.number) × AreNumbered
 -- A log has these lines, and its steps are a run that holds: the run is one of locations, each line is a step of the machine of the log's memory model,
 -- and the machine has done nothing before it but to take the log's first values.
 pub record IsHeldRun (log_lines : List LogLine) (s : MachineState) (lines : List RunLine) : Type 0 where
-  pub steps : filter is_step log_lines ≡ map told lines
+  pub steps : filter is_step log_lines ≡ map logged_line lines
   pub locations : AllByRecursion (λ line. IsAtLocation line.step) lines
   pub numbers : AreNumberedAbove 0 lines
   pub memory : (a : ℕ) → s.memory a ≡ First (first_value (first_values log_lines) a)

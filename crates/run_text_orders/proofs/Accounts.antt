@@ -34,7 +34,7 @@ use Rattle.log_text.specs.LogLines.{line_told}
 use Rattle.log_text.specs.LogTexts.{entries_in, first_values, is_model, is_step, order_of, with_first}
 use Rattle.log_text.proofs.FirstFacts.{last_counts, others_stay}
 use Rattle.log_text.proofs.ReadingFacts.{first-push, order_of-push}
-use Rattle.run_orders.specs.RunLogs.{AreNumberedAbove, IsAtLocation, IsLocation, told}
+use Rattle.run_orders.specs.RunLogs.{AreNumberedAbove, IsAtLocation, IsLocation, logged_line}
 use Rattle.run_orders.proofs.Lists.{all-append, all_map}
 use Rattle.run_orders.proofs.States.{filled_location, with_cell_here, with_cell_other}
 use Rattle.run_text_orders.proofs.Readings.{IsLineWidthless}
@@ -49,7 +49,7 @@ IsEarly stage.Ended = ⊥
 -- These lines of a log have the steps of the account, which are at locations; the steps begin in a state with the log's first values, and the account has their
 -- state and their refusals.
 pub record Accounts (lines : List LogLine) (account : Account) : Type 0 where
-  pub steps : filter is_step lines ≡ map told account.steps
+  pub steps : filter is_step lines ≡ map logged_line account.steps
   pub locations : AllByRecursion (λ line. IsAtLocation line.step) account.steps
   pub numbers : AreNumberedAbove 0 account.steps
   pub up_to : AllByRecursion (λ line. line.number ≤ length account.texts) account.steps
@@ -139,7 +139,7 @@ record IsStepLine (line : LogLine) : Type 0 where
   model : is_model line ≡ false
   entries : entries_in line ≡ []
 
-told_step : (number p : ℕ) (step : RunStep) → IsStepLine (told (record { number = number; processor = p; step = step }))
+told_step : (number p : ℕ) (step : RunStep) → IsStepLine (logged_line (record { number = number; processor = p; step = step }))
 told_step number p (Load place v) = record { step = refl; model = refl; entries = refl }
 told_step number p (Store place v) = record { step = refl; model = refl; entries = refl }
 told_step number p (Drain at v) = record { step = refl; model = refl; entries = refl }
@@ -181,7 +181,7 @@ module _ (lines : List LogLine) (account : Account) (accounts : Accounts lines a
       all_map (λ (other : RunLine). other.number ≤ length account.texts) (λ other. other.number ≤ length (account.texts ++ line ∷ []))
       (λ other low. omega (arith, low, more_texts)) account.steps accounts.up_to
 
-  steps_kept : (said : LogLine) → is_step said ≡ false → filter is_step (lines ++ said ∷ []) ≡ map told account.steps
+  steps_kept : (said : LogLine) → is_step said ≡ false → filter is_step (lines ++ said ∷ []) ≡ map logged_line account.steps
   steps_kept said none =
       filter-append is_step lines (said ∷ []) ∙ ap (λ b. filter is_step lines ++ cond b (said ∷ []) []) none ∙ append-nil (filter is_step lines) ∙ accounts.steps
 
@@ -279,14 +279,14 @@ module _ (lines : List LogLine) (account : Account) (accounts : Accounts lines a
     abbrev next : RunLine
     next = record { number = suc (length account.texts); processor = p; step = step }
 
-    is_told : IsStepLine (told next)
+    is_told : IsStepLine (logged_line next)
     is_told = told_step (suc (length account.texts)) p step
 
-    step_more : Accounts (lines ++ told next ∷ []) (with_line account line (text.Step p step))
+    step_more : Accounts (lines ++ logged_line next ∷ []) (with_line account line (text.Step p step))
     step_more = record {
       steps =
-          filter-append is_step lines (told next ∷ []) ∙ ap (λ b. filter is_step lines ++ cond b (told next ∷ []) []) is_told.step
-          ∙ ap (λ ls. ls ++ told next ∷ []) accounts.steps ∙ sym (map-append told account.steps (next ∷ []));
+          filter-append is_step lines (logged_line next ∷ []) ∙ ap (λ b. filter is_step lines ++ cond b (logged_line next ∷ []) []) is_told.step
+          ∙ ap (λ ls. ls ++ logged_line next ∷ []) accounts.steps ∙ sym (map-append logged_line account.steps (next ∷ []));
       locations = all-append (λ other. IsAtLocation other.step) account.steps (next ∷ []) accounts.locations (location, tt);
       numbers =
           numbers-push 0 account.steps next accounts.numbers (omega arith)
@@ -294,14 +294,14 @@ module _ (lines : List LogLine) (account : Account) (accounts : Accounts lines a
           accounts.up_to);
       up_to = all-append (λ other. other.number ≤ length (account.texts ++ line ∷ [])) account.steps (next ∷ []) up_to_more (omega (arith, more_texts), tt);
       first = accounts.first;
-      memory = memory_kept (told next) is_told.entries;
+      memory = memory_kept (logged_line next) is_told.entries;
       processors = accounts.processors;
       state = ap (state_after_line next) accounts.state ∙ sym (state-push accounts.first account.steps next);
       refusals =
           ap (λ rs. rs ++ map (numbered next.number) (line_refusals account.model next account.state)) accounts.refusals
           ∙ ap (λ s. refusals_from account.model accounts.first account.steps ++ map (numbered next.number) (line_refusals account.model next s)) accounts.state
           ∙ sym (refusals-push account.model accounts.first account.steps next);
-      model = order_kept (told next) is_told.model;
+      model = order_kept (logged_line next) is_told.model;
       widths = step_widths account.widths step accounts.widths location;
       early = λ none. absurd none;
     }
