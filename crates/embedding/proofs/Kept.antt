@@ -14,7 +14,8 @@ use Rattle.tso_model.proofs.Places.{occurrences-cons}
 use Rattle.tso_ops.proofs.NumberFacts.{event_unique}
 use Rattle.unit_core.specs.declared.steps.Step.{Step}
 use Rattle.unit_core.specs.declared.steps.Step.TheVariants.{Store, Drain, DrainAt, Load, Swap, Membar, Stbar}
-use Rattle.unit_core.specs.Machine.{Entry, State, IsAllowed, buffer_of, oldest_of, outcomes_of, proc_of, stbars_of}
+use Rattle.unit_core.specs.Machine.{Entry, State, buffer_of, oldest_of, outcomes_of, proc_of, stbars_of}
+use Rattle.embedding.specs.Sizes.{Sizes, IsAllowedIn}
 use Rattle.embedding.specs.RunOrder.{Numbering, ordered_by}
 use Rattle.embedding.proofs.Buffers.{stored_event, number_of_entry, entry_of_number, rises}
 use Rattle.embedding.proofs.Moments.{IsListed, IsNumbered, IsNumberedBefore}
@@ -241,29 +242,29 @@ module _ (t : TraceValue) (past : ℕ) (p : ℕ) (l : Numbering) (buffer : List 
       ]
 
 -- By the kind of the step.
-step_placed : (t : TraceValue) (past : ℕ) (s : State) (step : Step) (l : Numbering) (left : List Outcome) (done whole later : List ℕ) →
+step_placed : (z : Sizes) (t : TraceValue) (past : ℕ) (s : State) (step : Step) (l : Numbering) (left : List Outcome) (done whole later : List ℕ) →
     IsNumberedBefore t s step l left past →
-    ((u : ℕ) (d : Event) → event_at t u ≡ Some d → d.proc ≡ proc_of step → IsListed done l u) → IsAllowed t.setting.order s step →
+    ((u : ℕ) (d : Event) → event_at t u ≡ Some d → d.proc ≡ proc_of step → IsListed done l u) → IsAllowedIn z t.setting.order s step →
     whole ≡ done ++ (ordered_by l s step ++ later) → (n : ℕ) → 0 < occurrences n (ordered_by l s step) → IsPlaced t whole n
-step_placed t past s (Store p a v) l left done whole later numbered listed allowed is n taken = absurd (omega (arith, taken))
-step_placed t past s (Drain p) l left done whole later numbered listed allowed is n taken =
+step_placed z t past s (Store p a v) l left done whole later numbered listed allowed is n taken = absurd (omega (arith, taken))
+step_placed z t past s (Drain p) l left done whole later numbered listed allowed is n taken =
     drain_takes t past p l (buffer_of s p) (stbars_of s p) left done numbered listed whole later 0 allowed.1.0 allowed.1.1
     (free_first t.setting.order (buffer_of s p) allowed.1.0) is n taken
-step_placed t past s (DrainAt p a) l left done whole later numbered listed allowed is n taken =
+step_placed z t past s (DrainAt p a) l left done whole later numbered listed allowed is n taken =
     drain_takes t past p l (buffer_of s p) (stbars_of s p) left done numbered listed whole later (oldest_of (buffer_of s p) a) allowed.2.0 allowed.2.1
     (free_oldest t.setting.order (buffer_of s p) a allowed.2.0 allowed.1 allowed.2.1 allowed.2.2) is n taken
-step_placed t past s (Load p a r) l left done whole later numbered listed allowed is n taken =
+step_placed z t past s (Load p a r) l left done whole later numbered listed allowed is n taken =
     load_takes t past p l (buffer_of s p) (stbars_of s p) (Ld a r ∷ left) done numbered listed whole later _ is numbered.follow.0 refl refl refl refl n taken
-step_placed t past s (Swap p a r v) l left done whole later numbered listed allowed is n taken =
+step_placed z t past s (Swap p a r v) l left done whole later numbered listed allowed is n taken =
     swap_takes t past p l (buffer_of s p) (stbars_of s p) (Sw a r v ∷ left) done numbered listed whole later _ _ is allowed.2 numbered.follow.0 refl numbered.follow.1.0 refl refl n taken
-step_placed t past s (Membar p) l left done whole later numbered listed allowed is n taken = absurd (omega (arith, taken))
-step_placed t past s (Stbar p) l left done whole later numbered listed allowed is n taken = absurd (omega (arith, taken))
+step_placed z t past s (Membar p) l left done whole later numbered listed allowed is n taken = absurd (omega (arith, taken))
+step_placed z t past s (Stbar p) l left done whole later numbered listed allowed is n taken = absurd (omega (arith, taken))
 
 -- Each event that memory takes in a run of the trace's model is placed so.
-pub placed_where_taken : (t : TraceValue) (count : ℕ) (past : ℕ → ℕ) (whole : List ℕ) → HoldsWhereTaken t count past t.setting.order whole (IsPlaced t whole)
-placed_where_taken t count past whole = record {
+pub placed_where_taken : (z : Sizes) (t : TraceValue) (count : ℕ) (past : ℕ → ℕ) (whole : List ℕ) → HoldsWhereTaken z t count past t.setting.order whole (IsPlaced t whole)
+placed_where_taken z t count past whole = record {
   at_step = λ numberings s done step left later allowed below moment is n taken.
       let p = proc_of step in
-      step_placed t (past p) s step (numberings p) (outcomes_of p left) done whole later (own_numbered t count past numberings s done step left below moment)
+      step_placed z t (past p) s step (numberings p) (outcomes_of p left) done whole later (own_numbered z t count past numberings s done step left below moment)
       (λ u d at_u proc. subst (λ q. IsListed done (numberings q) u) proc (moment.listed u d at_u)) allowed is n taken;
 }

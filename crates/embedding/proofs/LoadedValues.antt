@@ -14,7 +14,8 @@ use Rattle.tso_model.proofs.Places.{occurrences-cons, place-listed}
 use Rattle.tso_ops.proofs.NumberFacts.{event_unique}
 use Rattle.unit_core.specs.declared.steps.Step.{Step}
 use Rattle.unit_core.specs.declared.steps.Step.TheVariants.{Store, Drain, DrainAt, Load, Swap, Membar, Stbar}
-use Rattle.unit_core.specs.Machine.{Entry, State, IsAllowed, buffer_of, newest, oldest_of, outcomes_of, proc_of, stbars_of}
+use Rattle.unit_core.specs.Machine.{Entry, State, buffer_of, newest, oldest_of, outcomes_of, proc_of, stbars_of}
+use Rattle.embedding.specs.Sizes.{Sizes, IsAllowedIn}
 use Rattle.embedding.specs.RunOrder.{Numbering, ordered_by}
 use Rattle.embedding.proofs.Buffers.{AreWaiting, all-at, entry_of_number, number_of_entry, stored_event}
 use Rattle.embedding.proofs.Kept.{listed_or_waits, not_load, not_store}
@@ -228,21 +229,21 @@ drain_reads t past p l buffer stbars left whole k e numbered read n taken load =
     reads_none t whole x n (stored_event p numbered.bars e) number.2 refl (occurs-one n x here) load
 
 -- By the kind of the step.
-step_reads : (t : TraceValue) (past : ℕ) (s : State) (step : Step) (l : Numbering) (left : List Outcome) (done whole later : List ℕ) → KeepsAddresses t whole →
+step_reads : (z : Sizes) (t : TraceValue) (past : ℕ) (s : State) (step : Step) (l : Numbering) (left : List Outcome) (done whole later : List ℕ) → KeepsAddresses t whole →
     IsNumberedBefore t s step l left past →
-    ((u : ℕ) (d : Event) → event_at t u ≡ Some d → d.proc ≡ proc_of step → IsListed done l u) → IsAllowed t.setting.order s step →
-    ((a : ℕ) → a < 256 → IsLastValue t done a (slice_index s.memory a)) →
+    ((u : ℕ) (d : Event) → event_at t u ≡ Some d → d.proc ≡ proc_of step → IsListed done l u) → IsAllowedIn z t.setting.order s step →
+    ((a : ℕ) → a < z.words → IsLastValue t done a (slice_index s.memory a)) →
     whole ≡ done ++ (ordered_by l s step ++ later) → (n : ℕ) → 0 < occurrences n (ordered_by l s step) → IsLoad t n → ReadsGreatest t whole n
-step_reads t past s (Store p a v) l left done whole later keeps numbered listed allowed memory is n taken load = absurd (omega (arith, taken))
-step_reads t past s (Drain p) l left done whole later keeps numbered listed allowed memory is n taken load =
+step_reads z t past s (Store p a v) l left done whole later keeps numbered listed allowed memory is n taken load = absurd (omega (arith, taken))
+step_reads z t past s (Drain p) l left done whole later keeps numbered listed allowed memory is n taken load =
     drain_reads t past p l (buffer_of s p) (stbars_of s p) left whole 0 allowed.1.0 numbered allowed.1.1 n taken load
-step_reads t past s (DrainAt p a) l left done whole later keeps numbered listed allowed memory is n taken load =
+step_reads z t past s (DrainAt p a) l left done whole later keeps numbered listed allowed memory is n taken load =
     drain_reads t past p l (buffer_of s p) (stbars_of s p) left whole (oldest_of (buffer_of s p) a) allowed.2.0 numbered allowed.2.1 n taken load
-step_reads t past s (Load p a r) l left done whole later keeps numbered listed allowed memory is n taken load =
+step_reads z t past s (Load p a r) l left done whole later keeps numbered listed allowed memory is n taken load =
     subst (λ m. ReadsGreatest t whole m) (occurs-one n l.following taken)
     (reads_seen t past p l (buffer_of s p) (stbars_of s p) (Ld a r ∷ left) done numbered listed whole later keeps is a _ numbered.follow.0 refl refl refl
     (slice_index s.memory a) (memory a allowed.1) allowed.2)
-step_reads t past s (Swap p a r v) l left done whole later keeps numbered listed allowed memory is n taken load =
+step_reads z t past s (Swap p a r v) l left done whole later keeps numbered listed allowed memory is n taken load =
     elim (cases_lt 0 (occurrences n (l.following ∷ []))) [
       | inl first ↦
           subst (λ m. ReadsGreatest t whole m) (occurs-one n l.following first)
@@ -252,15 +253,15 @@ step_reads t past s (Swap p a r v) l left done whole later keeps numbered listed
           let same = occurs-one n (suc l.following) (omega (arith, taken, other, occurrences-cons n l.following (suc l.following ∷ []))) in
           reads_none t whole (suc l.following) n _ numbered.follow.1.0 refl same load
     ]
-step_reads t past s (Membar p) l left done whole later keeps numbered listed allowed memory is n taken load = absurd (omega (arith, taken))
-step_reads t past s (Stbar p) l left done whole later keeps numbered listed allowed memory is n taken load = absurd (omega (arith, taken))
+step_reads z t past s (Membar p) l left done whole later keeps numbered listed allowed memory is n taken load = absurd (omega (arith, taken))
+step_reads z t past s (Stbar p) l left done whole later keeps numbered listed allowed memory is n taken load = absurd (omega (arith, taken))
 
 -- Each load that memory takes in a run reads the value of the greatest store that it sees.
-pub reads_where_taken : (t : TraceValue) (count : ℕ) (past : ℕ → ℕ) (whole : List ℕ) → KeepsAddresses t whole →
-    HoldsWhereTaken t count past t.setting.order whole (λ n. IsLoad t n → ReadsGreatest t whole n)
-reads_where_taken t count past whole keeps = record {
+pub reads_where_taken : (z : Sizes) (t : TraceValue) (count : ℕ) (past : ℕ → ℕ) (whole : List ℕ) → KeepsAddresses t whole →
+    HoldsWhereTaken z t count past t.setting.order whole (λ n. IsLoad t n → ReadsGreatest t whole n)
+reads_where_taken z t count past whole keeps = record {
   at_step = λ numberings s done step left later allowed below moment is n taken.
       let p = proc_of step in
-      step_reads t (past p) s step (numberings p) (outcomes_of p left) done whole later keeps (own_numbered t count past numberings s done step left below moment)
+      step_reads z t (past p) s step (numberings p) (outcomes_of p left) done whole later keeps (own_numbered z t count past numberings s done step left below moment)
       (λ u d at_u proc. subst (λ q. IsListed done (numberings q) u) proc (moment.listed u d at_u)) allowed moment.memory is n taken;
 }

@@ -12,7 +12,8 @@ use Rattle.tso_ops.specs.Events.{event_at, events_from, IsEvent, IsStoreTo, HasV
 use Rattle.tso_model.specs.Axioms.{occurrences, IsUpTo}
 use Rattle.unit_core.specs.declared.steps.Step.{Step}
 use Rattle.unit_core.specs.declared.steps.Step.TheVariants.{Store, Drain, DrainAt, Load, Swap, Membar, Stbar}
-use Rattle.unit_core.specs.Machine.{Entry, State, IsAllowed, buffer_of, drained, next, oldest_of, outcome_of, outcomes_of, proc_of, stbars_of, written}
+use Rattle.unit_core.specs.Machine.{Entry, State, buffer_of, drained, next, oldest_of, outcome_of, outcomes_of, proc_of, stbars_of, written}
+use Rattle.embedding.specs.Sizes.{Sizes, IsAllowedIn, unit_sizes}
 use Rattle.embedding.specs.RunOrder.{Numbering, numbering_after, with_numbering}
 use Rattle.embedding.proofs.Buffers.{AreWaiting, waiting-push, waiting-more, waiting-remove, waiting-none}
 
@@ -49,18 +50,22 @@ IsLastValue t done a v =
     ((v ≡ first_value t.setting.first a) × ((n : ℕ) → IsStoreTo t a n → occurrences n done ≡ 0))
     ⊎ ((n : ℕ) × IsStoreTo t a n × HasValue t n v × (0 < occurrences n done) × ((m : ℕ) → IsStoreTo t a m → 0 < occurrences m done → IsUpTo done m n))
 
-pub record HasSizes (s : State) : Type 0 where
-  pub memory : length s.memory ≡ 256
-  pub buffers : length s.buffers ≡ 16
-  pub stbars : length s.stbars ≡ 16
+pub record HasSizes (sizes : Sizes) (s : State) : Type 0 where
+  pub memory : length s.memory ≡ sizes.words
+  pub buffers : length s.buffers ≡ sizes.buffers
+  pub stbars : length s.stbars ≡ sizes.buffers
 
--- What holds where the listed events are those that memory has taken, and these steps are left.
-pub record IsMoment (t : TraceValue) (count : ℕ) (past : ℕ → ℕ) (numberings : ℕ → Numbering) (s : State) (done : List ℕ) (left : List Step) : Type 0 where
-  pub sizes : HasSizes s
+-- What holds where the listed events are those that memory has taken, and these steps are left, on a machine of these sizes.
+pub record IsMomentIn (z : Sizes) (t : TraceValue) (count : ℕ) (past : ℕ → ℕ) (numberings : ℕ → Numbering) (s : State) (done : List ℕ) (left : List Step) : Type 0 where
+  pub sizes : HasSizes z s
   pub numbered : (p : ℕ) → p < count → IsNumberedAt t past numberings s left p
   pub listed : (n : ℕ) (e : Event) → event_at t n ≡ Some e → IsListed done (numberings e.proc) n
   pub others : (n : ℕ) → (IsEvent t n → ⊥) → occurrences n done ≡ 0
-  pub memory : (a : ℕ) → a < 256 → IsLastValue t done a (slice_index s.memory a)
+  pub memory : (a : ℕ) → a < z.words → IsLastValue t done a (slice_index s.memory a)
+
+-- the same on a machine of a unit's sizes
+abbrev pub IsMoment : TraceValue → ℕ → (ℕ → ℕ) → (ℕ → Numbering) → State → List ℕ → List Step → Type 0
+IsMoment t count past numberings s done left = IsMomentIn unit_sizes t count past numberings s done left
 
 -- ---- the numbering of the step's processor and of the others
 
@@ -87,21 +92,21 @@ pub drained-is : (s : State) (p k : ℕ) (e : Entry) → slice_get (buffer_of s 
     drained s p k ≡ record s { memory = set s.memory e.a e.v; buffers = set s.buffers p (remove (buffer_of s p) k) }
 drained-is s p k e read = ap (λ o. written s p o (remove (buffer_of s p) k)) read
 
-drained-sizes : (s : State) (p k : ℕ) (e : Entry) → slice_get (buffer_of s p) k ≡ Some e → HasSizes s → HasSizes (drained s p k)
-drained-sizes s p k e read sizes = rw (drained-is s p k e read) (record {
+drained-sizes : (z : Sizes) (s : State) (p k : ℕ) (e : Entry) → slice_get (buffer_of s p) k ≡ Some e → HasSizes z s → HasSizes z (drained s p k)
+drained-sizes z s p k e read sizes = rw (drained-is s p k e read) (record {
   memory = length-set s.memory e.a e.v ∙ sizes.memory;
   buffers = length-set s.buffers p (remove (buffer_of s p) k) ∙ sizes.buffers;
   stbars = sizes.stbars;
 })
 
-pub next-sizes : (order : Order) (s : State) (step : Step) → IsAllowed order s step → HasSizes s → HasSizes (next s step)
-next-sizes order s (Store p a v) allowed sizes = record { memory = sizes.memory; buffers = length-set s.buffers p _ ∙ sizes.buffers; stbars = sizes.stbars }
-next-sizes order s (Drain p) allowed sizes = drained-sizes s p 0 allowed.1.0 allowed.1.1 sizes
-next-sizes order s (DrainAt p a) allowed sizes = drained-sizes s p (oldest_of (buffer_of s p) a) allowed.2.0 allowed.2.1 sizes
-next-sizes order s (Load p a r) allowed sizes = sizes
-next-sizes order s (Swap p a r v) allowed sizes = record { memory = length-set s.memory a v ∙ sizes.memory; buffers = sizes.buffers; stbars = sizes.stbars }
-next-sizes order s (Membar p) allowed sizes = sizes
-next-sizes order s (Stbar p) allowed sizes = record { memory = sizes.memory; buffers = sizes.buffers; stbars = length-set s.stbars p _ ∙ sizes.stbars }
+pub next-sizes : (z : Sizes) (order : Order) (s : State) (step : Step) → IsAllowedIn z order s step → HasSizes z s → HasSizes z (next s step)
+next-sizes z order s (Store p a v) allowed sizes = record { memory = sizes.memory; buffers = length-set s.buffers p _ ∙ sizes.buffers; stbars = sizes.stbars }
+next-sizes z order s (Drain p) allowed sizes = drained-sizes z s p 0 allowed.1.0 allowed.1.1 sizes
+next-sizes z order s (DrainAt p a) allowed sizes = drained-sizes z s p (oldest_of (buffer_of s p) a) allowed.2.0 allowed.2.1 sizes
+next-sizes z order s (Load p a r) allowed sizes = sizes
+next-sizes z order s (Swap p a r v) allowed sizes = record { memory = length-set s.memory a v ∙ sizes.memory; buffers = sizes.buffers; stbars = sizes.stbars }
+next-sizes z order s (Membar p) allowed sizes = sizes
+next-sizes z order s (Stbar p) allowed sizes = record { memory = sizes.memory; buffers = sizes.buffers; stbars = length-set s.stbars p _ ∙ sizes.stbars }
 
 written-stbars : (s : State) (p q : ℕ) (entry : Option Entry) (rest : List Entry) → stbars_of (written s p entry rest) q ≡ stbars_of s q
 written-stbars s p q None rest = refl
@@ -118,8 +123,8 @@ stbars-other s (Stbar p) q other = get_or-set_other s.stbars p q _ 0 (λ same. o
 
 -- ---- the step's processor after it
 
-module _ (t : TraceValue) (past : ℕ) where
-  drained-numbered : (s : State) (p k : ℕ) (e : Entry) (left : List Outcome) (l : Numbering) → HasSizes s → p < 16 → slice_get (buffer_of s p) k ≡ Some e →
+module _ (z : Sizes) (t : TraceValue) (past : ℕ) where
+  drained-numbered : (s : State) (p k : ℕ) (e : Entry) (left : List Outcome) (l : Numbering) → HasSizes z s → p < z.buffers → slice_get (buffer_of s p) k ≡ Some e →
       IsNumbered t p l (buffer_of s p) (stbars_of s p) left past →
       IsNumbered t p (record l { waiting = remove l.waiting k }) (buffer_of (drained s p k) p) (stbars_of (drained s p k) p) left past
   drained-numbered s p k e left l sizes small read before =
@@ -130,11 +135,11 @@ module _ (t : TraceValue) (past : ℕ) where
         whole = before.whole;
       })
 
-  pub next-numbered : (order : Order) (s : State) (step : Step) (left : List Outcome) (l : Numbering) → HasSizes s → IsAllowed order s step →
+  pub next-numbered : (order : Order) (s : State) (step : Step) (left : List Outcome) (l : Numbering) → HasSizes z s → IsAllowedIn z order s step →
       IsNumberedBefore t s step l left past →
       IsNumbered t (proc_of step) (numbering_after l s step) (buffer_of (next s step) (proc_of step)) (stbars_of (next s step) (proc_of step)) left past
   next-numbered order s (Store p a v) left l sizes allowed before =
-      let small : p < 16 = allowed.0 in
+      let small : p < z.buffers = allowed.0 in
       let is = before.follow.0 in
       rw (get_or-set_same s.buffers p (buffer_of s p ++ record { a = a; v = v; stbars = stbars_of s p } ∷ []) [] (omega (arith, small, sizes.buffers))) (record {
         bars = before.bars;
@@ -168,7 +173,7 @@ module _ (t : TraceValue) (past : ℕ) where
         whole = before.whole;
       }
   next-numbered order s (Stbar p) left l sizes allowed before =
-      let small : p < 16 = allowed in
+      let small : p < z.buffers = allowed in
       rw (get_or-set_same s.stbars p (suc (stbars_of s p)) 0 (omega (arith, small, sizes.stbars))) (record {
         bars = before.bars;
         follow = before.follow;

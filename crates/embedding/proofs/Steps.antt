@@ -16,9 +16,10 @@ use Rattle.unit_core.specs.declared.steps.Step.{Step}
 use Rattle.unit_core.specs.declared.steps.Step.TheVariants.{Store, Drain, DrainAt, Load, Swap, Membar, Stbar}
 use Rattle.unit_core.specs.Machine.{Entry, State, IsAllowed, buffer_of, drained, next, oldest_of, outcomes_of, proc_of, stbars_of}
 use Rattle.unit_core.proofs.RunFacts.{next-other}
+use Rattle.embedding.specs.Sizes.{Sizes, IsAllowedIn, unit_sizes}
 use Rattle.embedding.specs.RunOrder.{Numbering, numbering_after, numberings_after, ordered_by}
 use Rattle.embedding.proofs.Buffers.{stored_event, number_of_entry}
-use Rattle.embedding.proofs.Moments.{HasSizes, IsLastValue, IsListed, IsMoment, IsNumbered, IsNumberedAt, IsNumberedBefore, drained-is, next-numbered, next-sizes, other_numbering, outcomes-other, outcomes-own, same_numbering, stbars-other}
+use Rattle.embedding.proofs.Moments.{HasSizes, IsLastValue, IsListed, IsMoment, IsMomentIn, IsNumbered, IsNumberedAt, IsNumberedBefore, drained-is, next-numbered, next-sizes, other_numbering, outcomes-other, outcomes-own, same_numbering, stbars-other}
 use Rattle.embedding.proofs.Places.{listed_up_to, numbers_from, numbers-before, numbers-past, numbers-within, occurrences-one, occurrences-remove, occurs-one}
 
 -- The step of processor p issues so many events; each number that is issued or waited before is taken by memory or waits after it, and memory takes
@@ -56,37 +57,37 @@ drain-moves t p past k buffer e l stbars left read numbered =
       own = one_taken t p n (stored_event p numbered.bars e) number.2 refl;
     })
 
-pub step-moves : (t : TraceValue) (past : ℕ) (order : Order) (s : State) (step : Step) (left : List Outcome) (l : Numbering) → IsAllowed order s step →
+pub step-moves : (z : Sizes) (t : TraceValue) (past : ℕ) (order : Order) (s : State) (step : Step) (left : List Outcome) (l : Numbering) → IsAllowedIn z order s step →
     IsNumberedBefore t s step l left past → Moves t (proc_of step) l (numbering_after l s step) (ordered_by l s step)
-step-moves t past order s (Store p a v) left l allowed numbered = record {
+step-moves z t past order s (Store p a v) left l allowed numbered = record {
   issued = 1;
   following = omega arith;
   moved = λ n. omega (arith, occurrences-append n l.waiting (l.following ∷ []));
   own = nothing_taken t p;
 }
-step-moves t past order s (Drain p) left l allowed numbered =
+step-moves z t past order s (Drain p) left l allowed numbered =
     drain-moves t p past 0 (buffer_of s p) allowed.1.0 l (stbars_of s p) left allowed.1.1 numbered
-step-moves t past order s (DrainAt p a) left l allowed numbered =
+step-moves z t past order s (DrainAt p a) left l allowed numbered =
     drain-moves t p past (oldest_of (buffer_of s p) a) (buffer_of s p) allowed.2.0 l (stbars_of s p) left allowed.2.1 numbered
-step-moves t past order s (Load p a r) left l allowed numbered = record {
+step-moves z t past order s (Load p a r) left l allowed numbered = record {
   issued = 1;
   following = omega arith;
   moved = λ n. omega arith;
   own = one_taken t p l.following _ numbered.follow.0 refl;
 }
-step-moves t past order s (Swap p a r v) left l allowed numbered = record {
+step-moves z t past order s (Swap p a r v) left l allowed numbered = record {
   issued = 2;
   following = omega arith;
   moved = λ n. omega arith;
   own = two_taken t p l.following (suc l.following) _ _ numbered.follow.0 refl numbered.follow.1.0 refl;
 }
-step-moves t past order s (Membar p) left l allowed numbered = record {
+step-moves z t past order s (Membar p) left l allowed numbered = record {
   issued = 0;
   following = omega arith;
   moved = λ n. omega arith;
   own = nothing_taken t p;
 }
-step-moves t past order s (Stbar p) left l allowed numbered = record {
+step-moves z t past order s (Stbar p) left l allowed numbered = record {
   issued = 0;
   following = omega arith;
   moved = λ n. omega arith;
@@ -190,13 +191,13 @@ module _ (t : TraceValue) (done : List ℕ) (x : ℕ) (d : Event) (is : event_at
     ],
   )
 
-  memory-load : (memory : List ℕ) → d.load ≡ true → ((a : ℕ) → a < 256 → IsLastValue t done a (slice_index memory a)) → (a : ℕ) → a < 256 →
+  memory-load : (words : ℕ) (memory : List ℕ) → d.load ≡ true → ((a : ℕ) → a < words → IsLastValue t done a (slice_index memory a)) → (a : ℕ) → a < words →
       IsLastValue t (done ++ x ∷ []) a (slice_index memory a)
-  memory-load memory load last a within = last-keep a (slice_index memory a) (λ store to. absurd cc) (last a within)
+  memory-load words memory load last a within = last-keep a (slice_index memory a) (λ store to. absurd cc) (last a within)
 
-  memory-store : (memory : List ℕ) (b v : ℕ) → length memory ≡ 256 → d.load ≡ false → d.a ≡ b → d.value ≡ v → occurrences x done ≡ 0 →
-      ((a : ℕ) → a < 256 → IsLastValue t done a (slice_index memory a)) → (a : ℕ) → a < 256 → IsLastValue t (done ++ x ∷ []) a (slice_index (set memory b v) a)
-  memory-store memory b v long store to value none last a within = elim (cases_eq a b) [
+  memory-store : (words : ℕ) (memory : List ℕ) (b v : ℕ) → length memory ≡ words → d.load ≡ false → d.a ≡ b → d.value ≡ v → occurrences x done ≡ 0 →
+      ((a : ℕ) → a < words → IsLastValue t done a (slice_index memory a)) → (a : ℕ) → a < words → IsLastValue t (done ++ x ∷ []) a (slice_index (set memory b v) a)
+  memory-store words memory b v long store to value none last a within = elim (cases_eq a b) [
     | inl same ↦
         let read : get_or (set memory b v) a 0 ≡ v = ap (λ i. get_or (set memory b v) i 0) same ∙ get_or-set_same memory b v 0 (omega (arith, same, within, long)) in
         subst (λ w. IsLastValue t (done ++ x ∷ []) a w) (value ∙ sym read) (last-new a store (to ∙ sym same) none)
@@ -205,27 +206,27 @@ module _ (t : TraceValue) (done : List ℕ) (x : ℕ) (d : Event) (is : event_at
         subst (λ w. IsLastValue t (done ++ x ∷ []) a w) (sym read) (last-keep a (slice_index memory a) (λ is_store is_to. other (sym is_to ∙ to)) (last a within))
   ]
 
-module _ (t : TraceValue) (past : ℕ) (numberings : ℕ → Numbering) (s : State) (done : List ℕ)
-    (listed : (n : ℕ) (e : Event) → event_at t n ≡ Some e → IsListed done (numberings e.proc) n) (sizes : HasSizes s)
-    (memory : (a : ℕ) → a < 256 → IsLastValue t done a (slice_index s.memory a)) where
+module _ (z : Sizes) (t : TraceValue) (past : ℕ) (numberings : ℕ → Numbering) (s : State) (done : List ℕ)
+    (listed : (n : ℕ) (e : Event) → event_at t n ≡ Some e → IsListed done (numberings e.proc) n) (sizes : HasSizes z s)
+    (memory : (a : ℕ) → a < z.words → IsLastValue t done a (slice_index s.memory a)) where
   drain-memory : (p k : ℕ) (e : Entry) (left : List Outcome) → slice_get (buffer_of s p) k ≡ Some e →
-      IsNumbered t p (numberings p) (buffer_of s p) (stbars_of s p) left past → (a : ℕ) → a < 256 →
+      IsNumbered t p (numberings p) (buffer_of s p) (stbars_of s p) left past → (a : ℕ) → a < z.words →
       IsLastValue t (done ++ option_to_list (slice_get (numberings p).waiting k)) a (slice_index (drained s p k).memory a)
   drain-memory p k e left read numbered a within =
       let number = number_of_entry t p numbered.bars (numberings p).following (buffer_of s p) (numberings p).waiting k e numbered.waiting read in
       let x = number.0 in
       let d = stored_event p numbered.bars e in
       let none = unlisted_waiting done (numberings p) k x number.1 (listed x d number.2) in
-      rw (number.1, drained-is s p k e read) (memory-store t done x d number.2 s.memory e.a e.v sizes.memory refl refl refl none memory a within)
+      rw (number.1, drained-is s p k e read) (memory-store t done x d number.2 z.words s.memory e.a e.v sizes.memory refl refl refl none memory a within)
 
-  step-memory : (order : Order) (step : Step) (left : List Outcome) → IsAllowed order s step →
+  step-memory : (order : Order) (step : Step) (left : List Outcome) → IsAllowedIn z order s step →
       IsNumberedBefore t s step (numberings (proc_of step)) left past →
-      (a : ℕ) → a < 256 → IsLastValue t (done ++ ordered_by (numberings (proc_of step)) s step) a (slice_index (next s step).memory a)
+      (a : ℕ) → a < z.words → IsLastValue t (done ++ ordered_by (numberings (proc_of step)) s step) a (slice_index (next s step).memory a)
   step-memory order (Store p b v) left allowed numbered a within = rw (append-nil done) (memory a within)
   step-memory order (Drain p) left allowed numbered a within = drain-memory p 0 allowed.1.0 left allowed.1.1 numbered a within
   step-memory order (DrainAt p b) left allowed numbered a within = drain-memory p (oldest_of (buffer_of s p) b) allowed.2.0 left allowed.2.1 numbered a within
   step-memory order (Load p b r) left allowed numbered a within =
-      memory-load t done (numberings p).following _ numbered.follow.0 s.memory refl memory a within
+      memory-load t done (numberings p).following _ numbered.follow.0 z.words s.memory refl memory a within
   step-memory order (Swap p b r v) left allowed numbered a within =
       let n = (numberings p).following in
       let second = numbered.follow.1.0 in
@@ -237,29 +238,29 @@ module _ (t : TraceValue) (past : ℕ) (numberings : ℕ → Numbering) (s : Sta
         occurrences-other (suc n) n (λ same. omega (arith, same)),
       ) in
       subst (λ list. IsLastValue t list a (slice_index (set s.memory b v) a)) (append_assoc done (n ∷ []) (suc n ∷ []))
-      (memory-store t (done ++ n ∷ []) (suc n) _ second s.memory b v sizes.memory refl refl refl none
-      (memory-load t done n _ numbered.follow.0 s.memory refl memory) a within)
+      (memory-store t (done ++ n ∷ []) (suc n) _ second z.words s.memory b v sizes.memory refl refl refl none
+      (memory-load t done n _ numbered.follow.0 z.words s.memory refl memory) a within)
   step-memory order (Membar p) left allowed numbered a within = rw (append-nil done) (memory a within)
   step-memory order (Stbar p) left allowed numbered a within = rw (append-nil done) (memory a within)
 
 -- the numbering of the step's processor, with the outcome of the step as the first that is left
-pub own_numbered : (t : TraceValue) (count : ℕ) (past : ℕ → ℕ) (numberings : ℕ → Numbering) (s : State) (done : List ℕ) (step : Step) (left : List Step) →
-    proc_of step < count → IsMoment t count past numberings s done (step ∷ left) →
+pub own_numbered : (z : Sizes) (t : TraceValue) (count : ℕ) (past : ℕ → ℕ) (numberings : ℕ → Numbering) (s : State) (done : List ℕ) (step : Step) (left : List Step) →
+    proc_of step < count → IsMomentIn z t count past numberings s done (step ∷ left) →
     IsNumberedBefore t s step (numberings (proc_of step)) (outcomes_of (proc_of step) left) (past (proc_of step))
-own_numbered t count past numberings s done step left below moment =
+own_numbered z t count past numberings s done step left below moment =
     let p = proc_of step in
     subst (λ o. IsNumbered t p (numberings p) (buffer_of s p) (stbars_of s p) o (past p)) (outcomes-own step left) (moment.numbered p below)
 
 -- The step leads to the next moment.
-pub next_moment : (t : TraceValue) (count : ℕ) (past : ℕ → ℕ) (order : Order) (numberings : ℕ → Numbering) (s : State) (done : List ℕ) (step : Step) (left : List Step) →
-    IsAllowed order s step → proc_of step < count → IsMoment t count past numberings s done (step ∷ left) →
-    IsMoment t count past (numberings_after numberings s step) (next s step) (done ++ ordered_by (numberings (proc_of step)) s step) left
-next_moment t count past order numberings s done step left allowed below moment = record {
-  sizes = next-sizes order s step allowed moment.sizes;
+pub next_moment_in : (z : Sizes) (t : TraceValue) (count : ℕ) (past : ℕ → ℕ) (order : Order) (numberings : ℕ → Numbering) (s : State) (done : List ℕ) (step : Step) (left : List Step) →
+    IsAllowedIn z order s step → proc_of step < count → IsMomentIn z t count past numberings s done (step ∷ left) →
+    IsMomentIn z t count past (numberings_after numberings s step) (next s step) (done ++ ordered_by (numberings (proc_of step)) s step) left
+next_moment_in z t count past order numberings s done step left allowed below moment = record {
+  sizes = next-sizes z order s step allowed moment.sizes;
   numbered = numbered;
   listed = listed;
   others = λ n no_event. omega (arith, occurrences-append n done taken, moment.others n no_event, none_of_no_events t p l new taken n moves no_event);
-  memory = step-memory t (past p) numberings s done moment.listed moment.sizes moment.memory order step (outcomes_of p left) allowed own;
+  memory = step-memory z t (past p) numberings s done moment.listed moment.sizes moment.memory order step (outcomes_of p left) allowed own;
 }
   where
     p : ℕ
@@ -275,15 +276,15 @@ next_moment t count past order numberings s done step left allowed below moment 
     taken = ordered_by l s step
 
     own : IsNumberedBefore t s step l (outcomes_of p left) (past p)
-    own = own_numbered t count past numberings s done step left below moment
+    own = own_numbered z t count past numberings s done step left below moment
 
     moves : Moves t p l new taken
-    moves = step-moves t (past p) order s step (outcomes_of p left) l allowed own
+    moves = step-moves z t (past p) order s step (outcomes_of p left) l allowed own
 
     own_after : IsNumberedAt t past (numberings_after numberings s step) (next s step) left p
     own_after =
         subst (λ m. IsNumbered t p m (buffer_of (next s step) p) (stbars_of (next s step) p) (outcomes_of p left) (past p)) (sym (same_numbering numberings p new p refl))
-        (next-numbered t (past p) order s step (outcomes_of p left) l moment.sizes allowed own)
+        (next-numbered z t (past p) order s step (outcomes_of p left) l moment.sizes allowed own)
 
     -- a step changes nothing of another processor
     other_after : (q : ℕ) → (p ≡ q → ⊥) → IsNumberedAt t past numberings s (step ∷ left) q → IsNumberedAt t past (numberings_after numberings s step) (next s step) left q
@@ -309,3 +310,20 @@ next_moment t count past order numberings s done step left allowed below moment 
           subst (λ m. IsListed (done ++ taken) m n) (sym (other_numbering numberings p new e.proc other))
           (listed-other (numberings e.proc) done taken n (none_of_others t p l new taken n e moves is other) (moment.listed n e is))
     ]
+
+-- what a unit may do, a machine of its sizes may do
+pub allowed_in : (order : Order) (s : State) (step : Step) → IsAllowed order s step → IsAllowedIn unit_sizes order s step
+allowed_in order s (Store p a v) allowed = allowed
+allowed_in order s (Drain p) allowed = allowed
+allowed_in order s (DrainAt p a) allowed = allowed
+allowed_in order s (Load p a r) allowed = allowed
+allowed_in order s (Swap p a r v) allowed = allowed
+allowed_in order s (Membar p) allowed = allowed
+allowed_in order s (Stbar p) allowed = allowed
+
+-- The step of a unit leads to the next moment.
+pub next_moment : (t : TraceValue) (count : ℕ) (past : ℕ → ℕ) (order : Order) (numberings : ℕ → Numbering) (s : State) (done : List ℕ) (step : Step) (left : List Step) →
+    IsAllowed order s step → proc_of step < count → IsMoment t count past numberings s done (step ∷ left) →
+    IsMoment t count past (numberings_after numberings s step) (next s step) (done ++ ordered_by (numberings (proc_of step)) s step) left
+next_moment t count past order numberings s done step left allowed below moment =
+    next_moment_in unit_sizes t count past order numberings s done step left (allowed_in order s step allowed) below moment

@@ -5,6 +5,7 @@ use Rattle.std.specs.Option.{option_to_list}
 use Rattle.tso_ops.specs.Events.{events_from}
 use Rattle.unit_core.specs.declared.steps.Step.{Step}
 use Rattle.unit_core.specs.declared.steps.Step.TheVariants.{Store, Drain, DrainAt, Load, Swap, Membar, Stbar}
+use Rattle.embedding.specs.Sizes.{Sizes, first_state_in}
 use Rattle.unit_core.specs.Machine.{State, first_state, buffer_of, oldest_of, next, outcomes_of, proc_of}
 
 -- the number of a processor's next event, and those of the stores in its buffer, the oldest first
@@ -54,6 +55,10 @@ events_before p (suc count) steps q = cond (p == q) 0 (length (events_from p 0 0
 abbrev pub first_numberings : ℕ → List Step → ℕ → Numbering
 first_numberings count steps p = record { following = suc (events_before 0 count steps p); waiting = [] }
 
--- The order of a run of so many processors from this memory.
+-- The order of a run of so many processors from this memory, on a machine of these sizes.
+abbrev pub memory_order_in : Sizes → ℕ → List ℕ → List Step → List ℕ
+memory_order_in sizes count memory steps = order_from (first_numberings count steps) (first_state_in sizes memory) steps
+
+-- The same on a unit.
 abbrev pub memory_order_of : ℕ → List ℕ → List Step → List ℕ
 memory_order_of count memory steps = order_from (first_numberings count steps) (first_state memory) steps

@@ -38,7 +38,7 @@ order_by false false = refl
 any-push : (p : LogLine → Bool) (lines : List LogLine) (line : LogLine) → list_any p (lines ++ line ∷ []) ≡ (list_any p lines || p line)
 any-push p lines line = list_any-append p lines (line ∷ []) ∙ ap (λ b. list_any p lines || b) (or-false (p line))
 
-order_of-push : (lines : List LogLine) (line : LogLine) → order_of (lines ++ line ∷ []) ≡ cond (is_model line) OrderPso (order_of lines)
+pub order_of-push : (lines : List LogLine) (line : LogLine) → order_of (lines ++ line ∷ []) ≡ cond (is_model line) OrderPso (order_of lines)
 order_of-push lines line = ap (λ b. cond b OrderPso OrderTso) (any-push is_model lines line) ∙ order_by (list_any is_model lines) (is_model line)
 
 told-push : {X : Type 0} (told : LogLine → List X) (lines : List LogLine) (line : LogLine) → flat_map told (lines ++ line ∷ []) ≡ flat_map told lines ++ told line

@@ -4,6 +4,7 @@
 //! proved.
 #![tactic(auto)]
 
+pub use lines::LogLine;
 pub use logs::{Log, LogOperation, LoggedOperation};
 pub use readers::read_log;
 

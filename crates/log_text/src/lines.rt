@@ -9,8 +9,8 @@ use run_steps::RunStep;
 use tso_text::Why;
 
 /// What a line says to a log.
-#[derive(Clone, Copy)]
-pub(crate) enum LogLine {
+#[derive(Clone, Copy, Debug)]
+pub enum LogLine {
     /// Nothing.
     Note,
     /// The memory model is PSO.

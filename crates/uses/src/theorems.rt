@@ -6,6 +6,8 @@ use completeness::outcomes::outcomes_are_consistent_traces;
 use completeness::runs::consistent_traces_have_runs;
 use embedding::laws::complete_runs_have_orders;
 use order_paths::laws::edge_is_path;
+use run_orders::laws::runs_have_orders;
+use run_text_orders::laws::texts_of_runs_have_orders;
 use unit_runs::laws::unit_runs_are_runs;
 
 /// A law of each crate.
@@ -17,4 +19,6 @@ pub fn cite_the_theorems() {
     consistent_traces_have_runs();
     outcomes_are_consistent_traces();
     unit_runs_are_runs();
+    runs_have_orders();
+    texts_of_runs_have_orders();
 }

@@ -1,0 +1,12 @@
+pub mod Lists
+pub mod Waiting
+pub mod States
+pub mod Matching
+pub mod Moves
+pub mod Told
+pub mod Stepping
+pub mod Drains
+pub mod LastDrains
+pub mod Lines
+pub mod Logs
+pub mod Orders

@@ -1,0 +1,3 @@
+mod Readings
+mod Accounts
+mod Texts

@@ -1,0 +1,23 @@
+//! What the text of a run that holds says as a log, proved of all values.
+
+ghost use Rattle.std.specs.Prelude.{◌≡◌, ◌≢◌, ℕ, Bool, List, []};
+ghost use Rattle.tso_model.specs.Axioms.{IsConsistent};
+ghost use Rattle.trace_reports.specs.Renderings.{RendersRefusal};
+ghost use Rattle.trace_reports.specs.declared.answers.Answer.{Answer};
+ghost use Rattle.trace_reports.specs.declared.answers.Answer.TheVariants.{Refused, Violation};
+ghost use Rattle.request_options.specs.declared.following.FollowOptions.{FollowOptions};
+ghost use Rattle.run_following.specs.Accounts.{Account};
+ghost use Rattle.run_following.specs.Reports.{IsRunReport, RendersRun};
+ghost use Rattle.run_following.specs.Runs.{SpellsRun};
+ghost use Rattle.log_text.specs.LogTexts.{SpellsLog};
+ghost use Rattle.log_text.specs.LogValues.{NumberedLog, log_operations};
+
+/// Where a text spells a run none of whose lines is refused, the log that it spells has an order of its memory model. So has a log whose text, as a run, is
+/// reported to hold, also where no value was compared.
+pub fn texts_of_runs_have_orders()
+    ensures spelled { (needs_end : Bool) (text : List ℕ) (account : Account) (log : NumberedLog) → SpellsRun needs_end text account →
+        account.refusals ≡ [] → SpellsLog text log → IsConsistent (log_operations log) }
+    ensures reported { (renders : RendersRun) (refused : RendersRefusal) (options : FollowOptions) (bytes text : List ℕ) (answer : Answer) (log : NumberedLog) →
+        IsRunReport renders refused options bytes text answer → answer ≢ Violation → answer ≢ Refused → SpellsLog bytes log →
+        IsConsistent (log_operations log) }
+{}
