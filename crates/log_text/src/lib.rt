@@ -6,6 +6,7 @@
 
 pub use logs::{Log, LogOperation, LoggedOperation};
 pub use readers::read_log;
+pub use tags::{LineTags, read_tags};
 
 mod known;
 pub mod laws;
@@ -13,3 +14,4 @@ mod lines;
 mod logs;
 mod readers;
 mod readings;
+mod tags;
