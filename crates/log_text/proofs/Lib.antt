@@ -1,4 +1,5 @@
 pub mod FirstFacts
 pub mod LeftOutFacts
 pub mod ReadingFacts
+pub mod TagFacts
 pub mod TextFacts

@@ -1,2 +1,3 @@
 -- How far the reader of a log has come. No public contract uses these definitions.
 pub mod Readings
+pub mod TagLists

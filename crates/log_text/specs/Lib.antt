@@ -2,3 +2,4 @@ pub mod Internal
 pub mod LogLines
 pub mod LogTexts
 pub mod LogValues
+pub mod Tags

@@ -7,6 +7,7 @@
 pub use lines::LogLine;
 pub use logs::{Log, LogOperation, LoggedOperation};
 pub use readers::read_log;
+pub use tags::{LineTags, read_tags};
 
 mod known;
 pub mod laws;
@@ -14,3 +15,4 @@ mod lines;
 mod logs;
 mod readers;
 mod readings;
+mod tags;
