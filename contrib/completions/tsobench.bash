@@ -36,6 +36,7 @@ _tsobench() {
         log/--effort) ;;
         log/--max-unknown) ;;
         follow/--most) ;;
+        follow/--format) words='words json' ;;
         check/--nth) ;;
         verify/--nth) ;;
         outcomes/--limit) ;;
@@ -75,7 +76,7 @@ _tsobench() {
         reduce/*) words='--nth --verbose -h --help' files=yes ;;
         batch/*) words='--workers --format --quiet --violations --decide --effort --require --progress --verbose -h --help' files=yes ;;
         log/*) words='--most --effort --max-unknown --ended --trace --explain --progress --verbose -h --help' files=yes ;;
-        follow/*) words='--most --ended --fail-fast --verbose -h --help' files=yes ;;
+        follow/*) words='--most --explain --format --ended --fail-fast --progress --verbose -h --help' files=yes ;;
         check/*) words='--nth --verbose -h --help' files=yes ;;
         verify/*) words='--nth --verbose -h --help' files=yes ;;
         outcomes/*) words='--states --limit --seen --verbose -h --help' files=yes ;;

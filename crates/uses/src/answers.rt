@@ -5,7 +5,7 @@ use outcome_reports::{count_seen, list_outcomes};
 use progress_meters::NoMeter;
 use request_options::{
     BatchFormat, BatchMethod, BatchPrinting, FollowOptions, LogForm, LogOptions, OutcomeForm,
-    OutcomeOptions,
+    OutcomeOptions, RunFormat,
 };
 use run_following::{AsRunWords, follow_run};
 use std::alloc::{AllocGlobal, Global};
@@ -102,8 +102,11 @@ pub fn follow_a_run<R: Read, W: Write>(
         most: 10,
         needs_end: false,
         is_fast: true,
+        format: RunFormat::Words,
+        is_explained: true,
     };
-    let answer = follow_run(alloc, options, &AsRunWords, reader, writer)?;
+    let rendering = AsRunWords { is_explained: true };
+    let answer = follow_run(alloc, options, &rendering, &NoMeter, reader, writer)?;
     Ok(answer)
 }
 

@@ -4,6 +4,7 @@ ghost use Rattle.std.specs.Prelude.{◌<◌};
 
 use bitsets::mark;
 use chain_reach::{Groups, Reach};
+use json_texts::push_json_text;
 use line_text::number_of;
 use order_graph::Graph;
 use progress_meters::{Meter, NoMeter};
@@ -30,6 +31,13 @@ pub fn reach_of_two_chains(alloc: Global) -> Result<Reach, AllocError> {
 /// `line_text`: the number that a token spells.
 pub fn number_of_a_token(token: &[u8]) -> Option<u64> {
     number_of(token)
+}
+
+/// `json_texts`: a name, after a text that ends in a quote.
+pub fn name_in_json(alloc: Global, name: &str) -> Result<String, AllocError> {
+    let mut text = String::from_str(alloc, "\"")?;
+    push_json_text(&mut text, name)?;
+    Ok(text)
 }
 
 /// `order_graph`: the least cycle of a graph.

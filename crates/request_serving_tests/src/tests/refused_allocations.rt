@@ -6,7 +6,7 @@
 use super::logs::REPORT as LOGGED;
 use super::{Input, MESSAGE_PASSING, MemoryFiles, Output};
 use command_line::{FollowRequest, LogRequest, Request};
-use request_options::{FollowOptions, LogForm, LogOptions};
+use request_options::{FollowOptions, LogForm, LogOptions, RunFormat};
 use request_serving::serve;
 use std::alloc::{AllocError, Global};
 use std::sync::Wait;
@@ -142,6 +142,8 @@ fn serve_run<H: Threads + Wait + Sync + AllocGlobal>(
             most: 10,
             needs_end: false,
             is_fast: false,
+            format: RunFormat::Words,
+            is_explained: false,
         },
     });
     let mut files = MemoryFiles {
