@@ -13,14 +13,14 @@ use Rattle.run_steps.specs.Machine.{drained_number, keeps_back}
 use Rattle.run_steps.specs.Places.{is_place, overlaps}
 use Rattle.run_steps.specs.Steps.{MayDrain}
 use Rattle.run_steps.specs.Widths.{cells_of}
-use Rattle.unit_runs.specs.Lines.{IsLocation}
+use Rattle.unit_runs.specs.Lines.{IsLocationAt}
 use Rattle.unit_runs.specs.States.{AreSameStores}
 use Rattle.unit_runs.proofs.SameStores.{as_many, both_at, counts_rise, entry_at, same_count, same_line, store_at}
 
 -- ---- places of one location
 
 -- two locations are one place exactly where they have one address
-pub one_place : (a b : ℕ) (x y : Place) → IsLocation a x → IsLocation b y → is_place x y ≡ (b == a)
+pub one_place : (a b : ℕ) (x y : Place) → IsLocationAt a x → IsLocationAt b y → is_place x y ≡ (b == a)
 one_place a b x y first second =
     ap (λ n. (n == y.address) && (x.width == y.width)) first.address ∙ ap (λ n. (a == n) && (x.width == y.width)) second.address
     ∙ ap (λ n. (a == b) && (n == y.width)) first.width ∙ ap (λ n. (a == b) && (0 == n)) second.width ∙ one_number a b
@@ -35,7 +35,7 @@ apart_one : (a b : ℕ) → (a ≡ b → ⊥) → cond (nat_le a b) (nat_lt (b -
 apart_one a b other = grind (arith, nat_tests)
 
 -- two locations of other addresses share no cell
-apart : (a b : ℕ) (x y : Place) → IsLocation a x → IsLocation b y → (a ≡ b → ⊥) → overlaps x y ≡ false
+apart : (a b : ℕ) (x y : Place) → IsLocationAt a x → IsLocationAt b y → (a ≡ b → ⊥) → overlaps x y ≡ false
 apart a b x y first second other =
     ap (λ n. cond (nat_le n y.address) (nat_lt (y.address - n) (cells_of x.width)) (nat_lt (n - y.address) (cells_of y.width))) first.address
     ∙ ap (λ n. cond (nat_le a n) (nat_lt (n - a) (cells_of x.width)) (nat_lt (a - n) (cells_of y.width))) second.address
@@ -49,7 +49,7 @@ number_by true i j same = refl
 number_by false i j same = omega (arith, same)
 
 -- the oldest store at the place has the number of the oldest entry of the address
-pub oldest_number : (a : ℕ) (place : Place) → IsLocation a place → (n t : ℕ) (buffer : List Entry) (waits : List WaitingStore) (m u : ℕ) →
+pub oldest_number : (a : ℕ) (place : Place) → IsLocationAt a place → (n t : ℕ) (buffer : List Entry) (waits : List WaitingStore) (m u : ℕ) →
     AreSameStores n t buffer waits m u →
     position_or_len (λ w. is_place place w.place) waits ≡ oldest_of buffer a
 oldest_number a place is n t [] [] m u same = refl
@@ -67,7 +67,7 @@ found_at false i k e = absurd (none-some k e)
 -- ---- which stores keep it back
 
 -- an older one of another address with the same STBARs before it doesn't
-passes_one : (a b : ℕ) (newer older : WaitingStore) → IsLocation a newer.place → IsLocation b older.place → (b ≡ a → ⊥) → older.stbar ≡ newer.stbar →
+passes_one : (a b : ℕ) (newer older : WaitingStore) → IsLocationAt a newer.place → IsLocationAt b older.place → (b ≡ a → ⊥) → older.stbar ≡ newer.stbar →
     keeps_back Pso newer older ≡ false
 passes_one a b newer older is other_is other same =
     ap (λ b. b || not (older.stbar == newer.stbar)) (apart b a older.place newer.place other_is is other) ∙ ap not (eq-eqb older.stbar newer.stbar same)
@@ -95,7 +95,7 @@ not_address x a test same = let yes : (x == a) ≡ true = eq-eqb x a same in cc
 
 -- the oldest entry of its address, where none has fewer STBARs before it: its store passes all older ones
 passes_all : (n t : ℕ) (buffer : List Entry) (waits : List WaitingStore) (k m u a : ℕ) (e : Entry) (w : WaitingStore) → AreSameStores n t buffer waits m u →
-    slice_get buffer k ≡ Some e → slice_get waits k ≡ Some w → oldest_of buffer a ≡ k → IsLocation a w.place →
+    slice_get buffer k ≡ Some e → slice_get waits k ≡ Some w → oldest_of buffer a ≡ k → IsLocationAt a w.place →
     ((j : ℕ) (f : Entry) → slice_get buffer j ≡ Some f → e.stbars ≤ f.stbars) → AllByRecursion (λ older. keeps_back Pso w older ≡ false) (take k waits)
 passes_all n t [] waits k m u a e w same read waiting oldest is least = absurd cc
 passes_all n t (f ∷ buffer) [] k m u a e w same read waiting oldest is least = absurd same
@@ -151,7 +151,7 @@ module _ (order : Order) (n t : ℕ) (buffer : List Entry) (waits : List Waiting
       by (w ∷ waits) is others = let found = entry_at n t buffer (w ∷ waits) 0 m u w others refl in (found.0, found.1)
 
   -- a drain of the oldest at a place
-  module _ (a : ℕ) (place : Place) (is : IsLocation a place) where
+  module _ (a : ℕ) (place : Place) (is : IsLocationAt a place) where
     pub place_number : (e : Entry) → slice_get buffer (oldest_of buffer a) ≡ Some e → drained_number (Some place) waits ≡ Some (oldest_of buffer a)
     place_number e read =
         let k = oldest_of buffer a in
@@ -172,7 +172,7 @@ module _ (order : Order) (n t : ℕ) (buffer : List Entry) (waits : List Waiting
           is = place_number first.0 first.1;
           waits_there = found.1;
           passes = passes_all n t buffer waits k m u a first.0 found.0 same first.1 found.1 refl
-              (subst (λ x. IsLocation x found.0.place) address found.2.location) first.2;
+              (subst (λ x. IsLocationAt x found.0.place) address found.2.location) first.2;
           has = tt;
         }
 

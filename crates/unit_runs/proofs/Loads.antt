@@ -10,7 +10,7 @@ use Rattle.run_steps.specs.Places.{covers, parts_from}
 use Rattle.run_steps.specs.Reads.{Memory, joined_cells, newest_over, read_from, read_in, seen_before, seen_in, seen_of, sees}
 use Rattle.run_steps.specs.Steps.{IsRead}
 use Rattle.run_steps.specs.Widths.{cells_of}
-use Rattle.unit_runs.specs.Lines.{IsLocation}
+use Rattle.unit_runs.specs.Lines.{IsLocationAt}
 use Rattle.unit_runs.specs.States.{AreSameStores, IsSameStore}
 
 -- the value of what is seen, if something is
@@ -22,14 +22,14 @@ value_alone None = refl
 value_alone (Some seen) = let same : seen.value + 0 ≡ seen.value = omega arith in ap Some same
 
 -- a location has the value of its one cell
-location_read : (a : ℕ) (place : Place) (look : ℕ → Option CellContent) → IsLocation a place → read_in place look ≡ value_seen (look a)
+location_read : (a : ℕ) (place : Place) (look : ℕ → Option CellContent) → IsLocationAt a place → read_in place look ≡ value_seen (look a)
 location_read a place look is =
     ap (λ n. read_from n look place.address (cells_of n)) is.width ∙ ap (λ n. read_from 0 look n 1) is.address ∙ value_alone (look a)
 
 covers_number : (b a : ℕ) → (nat_le b a && nat_lt (a - b) 1) ≡ (b == a)
 covers_number b a = grind (arith, nat_tests)
 
-covers_one : (b a : ℕ) (place : Place) → IsLocation b place → covers place a ≡ (b == a)
+covers_one : (b a : ℕ) (place : Place) → IsLocationAt b place → covers place a ≡ (b == a)
 covers_one b a place is =
     ap (λ n. nat_le n a && nat_lt (a - n) (cells_of place.width)) is.address ∙ ap (λ n. nat_le b a && nat_lt (a - b) (cells_of n)) is.width ∙ covers_number b a
 
@@ -65,7 +65,7 @@ newest_seen memory a n t (e ∷ buffer) (w ∷ waits) m u o v same before =
     (newest_next memory a e w o v same.1 before)
 
 -- what is read at the location of an address
-pub same_read : (memory : Memory) (a : ℕ) (place : Place) (n t : ℕ) (buffer : List Entry) (waits : List WaitingStore) (m u v : ℕ) → IsLocation a place →
+pub same_read : (memory : Memory) (a : ℕ) (place : Place) (n t : ℕ) (buffer : List Entry) (waits : List WaitingStore) (m u v : ℕ) → IsLocationAt a place →
     AreSameStores n t buffer waits m u →
     value_seen (seen_in (memory a)) ≡ Some v → read_in place (sees memory waits) ≡ Some (newest buffer a v)
 same_read memory a place n t buffer waits m u v is same has =

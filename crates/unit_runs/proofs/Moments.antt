@@ -13,7 +13,7 @@ use Rattle.run_steps.specs.Machine.{MachineState, ProcessorState, admitted, idle
 use Rattle.run_steps.specs.Places.{cell_parts, parts_from}
 use Rattle.run_steps.specs.Reads.{Memory, filled, seen_in, with_cell}
 use Rattle.run_steps.specs.Widths.{cells_of}
-use Rattle.unit_runs.specs.Lines.{IsLocation}
+use Rattle.unit_runs.specs.Lines.{IsLocationAt}
 use Rattle.unit_runs.specs.States.{AreSameStores, HoldsValue, IsSameState}
 use Rattle.unit_runs.proofs.Loads.{value_seen}
 
@@ -125,14 +125,14 @@ cell_holds r b cell v memory words within is before a small = elim (cases_eq b a
 ]
 
 -- what is written to a location is written into its one cell
-pub filled_one : (memory : Memory) (b : ℕ) (place : Place) (cell : ℕ → Cell) (v : ℕ) → IsLocation b place →
+pub filled_one : (memory : Memory) (b : ℕ) (place : Place) (cell : ℕ → Cell) (v : ℕ) → IsLocationAt b place →
     filled memory place.address (map cell (cell_parts place v)) ≡ with_cell memory b (cell v)
 filled_one memory b place cell v is =
     ap (λ n. filled memory place.address (map cell (parts_from n (cells_of n) v))) is.width
     ∙ ap (λ n. with_cell memory n (cell v)) is.address
 
 -- a store to a location that reaches memory
-pub reached_holds : (line p : ℕ) (w : WaitingStore) (r : MachineState) (b v : ℕ) (memory : List ℕ) → IsLocation b w.place → w.value ≡ v →
+pub reached_holds : (line p : ℕ) (w : WaitingStore) (r : MachineState) (b v : ℕ) (memory : List ℕ) → IsLocationAt b w.place → w.value ≡ v →
     length memory ≡ 256 → b < 256 →
     ((a : ℕ) → a < 256 → HoldsValue r a (slice_index memory a)) → (a : ℕ) → a < 256 → HoldsValue (reaching line p w r) a (slice_index (set memory b v) a)
 reached_holds line p w r b v memory is value words within before a small =

@@ -13,13 +13,13 @@ use Rattle.run_steps.specs.declared.steps.RunStep.TheVariants as run
 use Rattle.run_steps.specs.Machine.{MachineState, presetting}
 
 -- the place is the location at the address
-pub record IsLocation (a : ℕ) (place : Place) : Type 0 where
+pub record IsLocationAt (a : ℕ) (place : Place) : Type 0 where
   pub address : place.address ≡ a
   pub width : place.width ≡ 0
 
 -- each of a unit's addresses has the location there
 abbrev pub AreLocations : (ℕ → Place) → Type 0
-AreLocations places = (a : ℕ) → a < 256 → IsLocation a (places a)
+AreLocations places = (a : ℕ) → a < 256 → IsLocationAt a (places a)
 
 -- what a line says that says what the unit's step is
 abbrev pub run_step_of : (ℕ → Place) → Step → RunStep

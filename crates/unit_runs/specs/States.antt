@@ -5,7 +5,7 @@ use Rattle.run_steps.specs.declared.processors.WaitingStore.{WaitingStore}
 use Rattle.run_steps.specs.declared.refusals.CellContent.{CellContent}
 use Rattle.run_steps.specs.Machine.{MachineState, processor_in, waits_of}
 use Rattle.run_steps.specs.Reads.{seen_in}
-use Rattle.unit_runs.specs.Lines.{IsLocation}
+use Rattle.unit_runs.specs.Lines.{IsLocationAt}
 
 -- Of one processor's STBARs: where the last of the first n is at line t, the last of the first m is at line u. They are the same, or the first come earlier.
 abbrev pub AreNoLater : ℕ → ℕ → ℕ → ℕ → Type 0
@@ -14,7 +14,7 @@ AreNoLater n t m u = ((n ≡ m) × (t ≡ u)) ⊎ ((n < m) × (t < u))
 -- the store and the entry have one address, of the unit's, and one value
 pub record IsSameStore (e : Entry) (w : WaitingStore) : Type 0 where
   pub within : e.a < 256
-  pub location : IsLocation e.a w.place
+  pub location : IsLocationAt e.a w.place
   pub value : w.value ≡ e.v
 
 -- The stores that wait are the buffer's entries, in order, behind n STBARs of which the last is at line t. After them the processor has made m STBARs, of
