@@ -11,6 +11,8 @@ use Rattle.text_streams.specs.declared.faults.Fault.{Fault}
 use Rattle.text_streams.specs.Readings.{ReadsAs}
 use Rattle.log_text.specs.LogTexts.{IsEndedAsNeeded, IsLogRefusal, SpellsLog}
 use Rattle.log_text.specs.LogValues.{NumberedLog, log_operations}
+use Rattle.log_text.specs.Tags.{AreTagsOf}
+use Rattle.log_text.specs.declared.tags.LineTags.{LineTags}
 use Rattle.request_options.specs.declared.logs.LogOptions.{LogOptions}
 use Rattle.log_reports.specs.declared.reports.LogReport.{LogReport}
 use Rattle.trace_reports.specs.declared.answers.Answer.{Answer}
@@ -52,10 +54,11 @@ of_reader Is (Some whole) bytes all holds = record { bytes = bytes; of_read = ho
 
 module _ (said : RendersLog) (refused : RendersRefusal) (options : LogOptions) (remaining : Option (List ℕ)) (text bytes : List ℕ) (all : IfSome remaining (λ l. bytes ≡ l)) (same : text ≡ bytes) where
   -- the report on a log that was read
-  pub log_said : (log : NumberedLog) (outcome : Result LogReport Fault) → SpellsLog text log → IsEndedAsNeeded options.needs_end text → IfOk outcome (λ r. IsReportOf said log options (string_bytes r.text) r.verdict) →
+  pub log_said : (log : NumberedLog) (tags : LineTags) (outcome : Result LogReport Fault) → SpellsLog text log → IsEndedAsNeeded options.needs_end text → AreTagsOf text tags →
+      IfOk outcome (λ r. (bytes : List ℕ) → AreTagsOf bytes tags → IsReportOf said log bytes options (string_bytes r.text) r.verdict) →
       IfOk outcome (λ r. IsLogReportOfReader said refused options remaining (string_bytes r.text) r.verdict)
-  log_said log (Ok r) spelled ended is = of_reader (λ bytes. IsLogReport said refused options bytes (string_bytes r.text) r.verdict) remaining bytes all (inl (log, subst (λ (l : List ℕ). SpellsLog l log) same spelled, subst (IsEndedAsNeeded options.needs_end) same ended, is))
-  log_said log (Err fault) spelled ended is = tt
+  log_said log tags (Ok r) spelled ended tagged is = of_reader (λ bytes. IsLogReport said refused options bytes (string_bytes r.text) r.verdict) remaining bytes all (inl (log, subst (λ (l : List ℕ). SpellsLog l log) same spelled, subst (IsEndedAsNeeded options.needs_end) same ended, is bytes (subst (λ (l : List ℕ). AreTagsOf l tags) same tagged)))
+  log_said log tags (Err fault) spelled ended tagged is = tt
 
   -- the refusal of a text
   pub refusal_said : (line : ℕ) (why : Why) (told : List ℕ) (verdict : Answer) → IsLogRefusal options.needs_end text line why → told ≡ refused text line why → verdict ≡ Refused → IsLogReportOfReader said refused options remaining told verdict

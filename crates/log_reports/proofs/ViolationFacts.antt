@@ -69,7 +69,7 @@ found_none log found written is =
 pub report_written : (said : RendersLog) (refused : RendersRefusal) (options : LogOptions) (bytes text : List ℕ) → IsLogReport said refused options bytes text Clear → (log : NumberedLog) → SpellsLog bytes log → (l : ℕ) → IsUnwritten (log_operations log) l → ⊥
 report_written said refused options bytes text is log spelled =
     ⊎_elim
-    (λ of_log. subst (λ (other : NumberedLog). (l : ℕ) → IsUnwritten (log_operations other) l → ⊥) (one_log bytes of_log.0 log of_log.1 spelled) (found_none of_log.0 (found_in of_log.0 options of_log.3.unknown of_log.3.findings) of_log.3.written (sym of_log.3.gives)))
+    (λ of_log. subst (λ (other : NumberedLog). (l : ℕ) → IsUnwritten (log_operations other) l → ⊥) (one_log bytes of_log.0 log of_log.1 spelled) (found_none of_log.0 (found_in of_log.0 options of_log.3.tags of_log.3.unknown of_log.3.findings) of_log.3.written (sym of_log.3.gives)))
     (λ refusal. absurd (differ refusal.gives))
     is
   where
@@ -79,7 +79,7 @@ report_written said refused options bytes text is log spelled =
 pub report_violation : (said : RendersLog) (refused : RendersRefusal) (options : LogOptions) (bytes text : List ℕ) → IsLogReport said refused options bytes text Violation → (log : NumberedLog) → SpellsLog bytes log → IsConsistent (log_operations log) → ⊥
 report_violation said refused options bytes text is log spelled =
     ⊎_elim
-    (λ of_log. subst (λ (other : NumberedLog). IsConsistent (log_operations other) → ⊥) (one_log bytes of_log.0 log of_log.1 spelled) (found_violation of_log.0 (found_in of_log.0 options of_log.3.unknown of_log.3.findings) of_log.3.found (sym of_log.3.gives)))
+    (λ of_log. subst (λ (other : NumberedLog). IsConsistent (log_operations other) → ⊥) (one_log bytes of_log.0 log of_log.1 spelled) (found_violation of_log.0 (found_in of_log.0 options of_log.3.tags of_log.3.unknown of_log.3.findings) of_log.3.found (sym of_log.3.gives)))
     (λ refusal. absurd (differ refusal.gives))
     is
   where

@@ -5,6 +5,8 @@ use Rattle.tso_text.specs.declared.faults.Why.{Why}
 use Rattle.text_streams.specs.Readings.{ReadsAs}
 use Rattle.log_text.specs.LogTexts.{IsEndedAsNeeded, IsLogRefusal, SpellsLog}
 use Rattle.log_text.specs.LogValues.{NumberedLog}
+use Rattle.log_text.specs.Tags.{AreTagsOf}
+use Rattle.log_text.specs.declared.tags.LineTags.{LineTags}
 use Rattle.log_selections.specs.Sources.{IsAmbiguousCount}
 use Rattle.log_reports.specs.declared.findings.LogFindings.{LogFindings}
 use Rattle.log_reports.specs.declared.forms.LogFound.{LogFound}
@@ -29,21 +31,23 @@ verdict_of found = cond (is_empty found.findings.violations.items) (cond (is_all
 abbrev pub RendersLog : Type 0
 RendersLog = NumberedLog → LogFound → List ℕ
 
--- what was found in the log, of the loads of which so many have a source that the values don't tell
-abbrev pub found_in : NumberedLog → LogOptions → ℕ → LogFindings → LogFound
-found_in log options unknown findings = record { options = options; counts = counts_of log unknown; findings = findings }
+-- what was found in the log, of the loads of which so many have a source that the values don't tell, and the tags of its lines
+abbrev pub found_in : NumberedLog → LogOptions → LineTags → ℕ → LogFindings → LogFound
+found_in log options tags unknown findings = record { options = options; counts = counts_of log unknown; findings = findings; tags = tags }
 
--- The text is rendered of the log by what was found in it.
-pub record IsReportOf (renders : RendersLog) (log : NumberedLog) (options : LogOptions) (text : List ℕ) (verdict : Answer) : Type 0 where
+-- The text is rendered of the log by what was found in it, and by the tags of these bytes, which spell it.
+pub record IsReportOf (renders : RendersLog) (log : NumberedLog) (bytes : List ℕ) (options : LogOptions) (text : List ℕ) (verdict : Answer) : Type 0 where
   pub findings : LogFindings
   pub found : AreFindings log findings
   pub few : AreWithin options.most findings
   pub written : AreWrittenIn log findings
+  pub tags : LineTags
+  pub tagged : AreTagsOf bytes tags
   -- how many loads have a source that the values don't tell
   pub unknown : ℕ
   pub counted : IsAmbiguousCount log unknown
-  pub says : text ≡ renders log (found_in log options unknown findings)
-  pub gives : verdict ≡ verdict_of (found_in log options unknown findings)
+  pub says : text ≡ renders log (found_in log options tags unknown findings)
+  pub gives : verdict ≡ verdict_of (found_in log options tags unknown findings)
 
 -- The text is rendered of the refusal of these bytes: they are no log, or lack the line `end` that is needed.
 pub record IsRefusalOf (renders : RendersRefusal) (options : LogOptions) (bytes text : List ℕ) (verdict : Answer) : Type 0 where
@@ -56,7 +60,7 @@ pub record IsRefusalOf (renders : RendersRefusal) (options : LogOptions) (bytes 
 -- The text is a report on the log that these bytes spell, or refuses them.
 abbrev pub IsLogReport : RendersLog → RendersRefusal → LogOptions → List ℕ → List ℕ → Answer → Type 0
 IsLogReport renders refused options bytes text verdict =
-    ((log : NumberedLog) × SpellsLog bytes log × IsEndedAsNeeded options.needs_end bytes × IsReportOf renders log options text verdict)
+    ((log : NumberedLog) × SpellsLog bytes log × IsEndedAsNeeded options.needs_end bytes × IsReportOf renders log bytes options text verdict)
     ⊎ IsRefusalOf refused options bytes text verdict
 
 -- the same of the bytes of a reader

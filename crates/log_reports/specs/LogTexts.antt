@@ -6,6 +6,7 @@ use Rattle.std.specs.Fmt.{decimal}
 use Rattle.line_text.specs.Lines.{is_empty}
 use Rattle.tso_ops.specs.declared.settings.Order.{Order}
 use Rattle.tso_text.specs.Printed.{trace_text}
+use Rattle.log_text.specs.Tags.{tag_in}
 use Rattle.log_selections.specs.declared.selecting.Selected.{Selected}
 use Rattle.log_selections.specs.declared.unwritten.LoggedStore.{LoggedStore}
 use Rattle.log_selections.specs.declared.unwritten.UnwrittenLoad.{UnwrittenLoad}
@@ -46,10 +47,10 @@ nothing_after processors selected finding = []
 abbrev pub explained_after : SaidAfterLines
 explained_after processors selected finding = explanation_by (naming_of_shown processors selected.shown.items) selected.trace finding.certificate ++ codes "\n"
 
--- the lines of a violation, and what is said after them
-abbrev pub violation_text : SaidAfterLines → ℕ → LogViolation → List ℕ
-violation_text after processors (Selection selected finding) = log_lines_text selected.shown.items ++ after processors selected finding
-violation_text after processors (Unwritten load) = log_line_text load.shown ++ stored_text load
+-- the lines of a violation, with these tags, and what is said after them
+abbrev pub violation_text : SaidAfterLines → (ℕ → List ℕ) → ℕ → LogViolation → List ℕ
+violation_text after tags processors (Selection selected finding) = log_lines_text tags selected.shown.items ++ after processors selected finding
+violation_text after tags processors (Unwritten load) = log_line_text tags load.shown ++ stored_text load
 
 -- the texts of elements, each after a line with a word and its number, from this number on
 abbrev pub numbered_from : {X : Type 0} → (X → List ℕ) → List ℕ → ℕ → List X → List ℕ
@@ -99,8 +100,8 @@ total_text findings = cond (is_empty findings.violations.items) [] (count_text (
 abbrev pub report_text : SaidAfterLines → LogFound → List ℕ
 report_text after found =
     counts_text found.counts ++ verdict_text found
-    ++ numbered_from (violation_text after found.counts.processors) (codes "violation ") 1 found.findings.violations.items ++ total_text found.findings
-    ++ numbered_from (λ shown. log_lines_text shown.items) (codes "unjudged ") 1 found.findings.unjudged.items
+    ++ numbered_from (violation_text after (tag_in found.tags) found.counts.processors) (codes "violation ") 1 found.findings.violations.items ++ total_text found.findings
+    ++ numbered_from (λ shown. log_lines_text (tag_in found.tags) shown.items) (codes "unjudged ") 1 found.findings.unjudged.items
 
 -- the text of a violation's trace: of a load of what nothing wrote it is such a load alone
 abbrev pub violation_trace_text : Order → LogViolation → List ℕ

@@ -9,6 +9,7 @@ use crate::findings::LogFindings;
 use crate::refusals::explain_log_refusal;
 use crate::rendering::{render_report, render_traces};
 use log_selections::KnownLog;
+use log_text::LineTags;
 use request_options::LogOptions;
 use std::alloc::Global;
 use trace_reports::{AsReport, Rendering};
@@ -24,6 +25,8 @@ pub struct LogFound {
     pub counts: LogCounts,
     /// What was found in it.
     pub findings: LogFindings,
+    /// The tags of its lines.
+    pub tags: LineTags,
 }
 
 /// The report: the lines of each violation; or the line of a refusal.

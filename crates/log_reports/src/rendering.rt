@@ -1,6 +1,7 @@
 //! The text of what is found in a log.
 ghost use Rattle.std.specs.Prelude.{◌≡◌, ◌++◌, [], IfOk, OnOk, codes, string_bytes};
 ghost use Rattle.std.specs.Option.{option_map_or};
+ghost use Rattle.log_text.specs.Tags.{tag_in};
 ghost use Rattle.log_reports.specs.Lines.{log_lines_text};
 ghost use Rattle.log_reports.specs.Internal.ViolationTexts.{after_lines};
 ghost use Rattle.log_reports.specs.LogTexts.{count_text, counts_text, explained_after, found_text, gaps_text, numbered_from, report_text, store_text, stored_text, total_text, unknown_text, unsearched_text, verdict_text, violation_text, violation_trace_text, violation_traces_text, words_if};
@@ -11,6 +12,7 @@ use crate::forms::LogFound;
 use crate::lines::{push_line, push_lines};
 use crate::naming::name_events;
 use log_selections::{LoggedStore, Selected, Shown, UnwrittenLoad, lone_load};
+use log_text::LineTags;
 use std::alloc::{AllocError, Global};
 use std::fmt::Write;
 use trace_explanation::explain_named;
@@ -30,9 +32,16 @@ pub(crate) fn render_report(
     let processors = found.counts.processors;
     let mut text = render_counts(alloc, found.counts)?;
     push_verdict(&mut text, found)?;
-    push_numbered(alloc, &mut text, explains, processors, &findings.violations)?;
+    push_numbered(
+        alloc,
+        &mut text,
+        explains,
+        &found.tags,
+        processors,
+        &findings.violations,
+    )?;
     push_total(&mut text, findings)?;
-    push_unjudged(&mut text, &findings.unjudged)?;
+    push_unjudged(&mut text, &found.tags, &findings.unjudged)?;
     Ok(text)
 }
 
@@ -144,16 +153,17 @@ fn push_numbered(
     alloc: Global,
     text: &mut String,
     explains: bool,
+    tags: &LineTags,
     processors: usize,
     violations: &[LogViolation],
 ) -> Result<(), AllocError>
-    ensures { OnOk result (string_bytes text.new ≡ string_bytes text.old ++ numbered_from (violation_text (after_lines explains) processors)
+    ensures { OnOk result (string_bytes text.new ≡ string_bytes text.old ++ numbered_from (violation_text (after_lines explains) (tag_in tags.now) processors)
         (codes "violation ") 1 violations.now) }
 {
     for (k, violation) in violations.iter().enumerate() {
         let number = k + 1;
         write!(text, "violation {number}\n")?;
-        push_violation(alloc, text, explains, processors, violation)?;
+        push_violation(alloc, text, explains, tags, processors, violation)?;
     }
     Ok(())
 }
@@ -163,21 +173,22 @@ fn push_violation(
     alloc: Global,
     text: &mut String,
     explains: bool,
+    tags: &LineTags,
     processors: usize,
     violation: &LogViolation,
 ) -> Result<(), AllocError>
-    ensures { OnOk result (string_bytes text.new ≡ string_bytes text.old ++ violation_text (after_lines explains) processors violation.now) }
+    ensures { OnOk result (string_bytes text.new ≡ string_bytes text.old ++ violation_text (after_lines explains) (tag_in tags.now) processors violation.now) }
 {
     match violation {
         LogViolation::Selection { selected, finding } => {
-            push_lines(text, &selected.shown)?;
+            push_lines(text, tags, &selected.shown)?;
             if explains {
                 push_explanation(alloc, text, processors, selected, finding)?;
             }
             Ok(())
         }
         LogViolation::Unwritten(load) => {
-            push_line(text, &load.shown)?;
+            push_line(text, tags, &load.shown)?;
             push_stored(text, load)
         }
     }
@@ -222,14 +233,18 @@ fn push_store(text: &mut String, word: &str, store: Option<LoggedStore>) -> Resu
 }
 
 /// Appends the lines that couldn't be judged, each group after a line with its number.
-fn push_unjudged(text: &mut String, unjudged: &[Vec<Shown>]) -> Result<(), AllocError>
-    ensures { OnOk result (string_bytes text.new ≡ string_bytes text.old ++ numbered_from (λ shown. log_lines_text shown.items)
+fn push_unjudged(
+    text: &mut String,
+    tags: &LineTags,
+    unjudged: &[Vec<Shown>],
+) -> Result<(), AllocError>
+    ensures { OnOk result (string_bytes text.new ≡ string_bytes text.old ++ numbered_from (λ shown. log_lines_text (tag_in tags.now) shown.items)
         (codes "unjudged ") 1 unjudged.now) }
 {
     for (k, shown) in unjudged.iter().enumerate() {
         let number = k + 1;
         write!(text, "unjudged {number}\n")?;
-        push_lines(text, shown)?;
+        push_lines(text, tags, shown)?;
     }
     Ok(())
 }

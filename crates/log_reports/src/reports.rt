@@ -7,6 +7,7 @@ ghost use Rattle.text_streams.specs.declared.faults.Fault.{Fault};
 ghost use Rattle.tso_model.specs.Axioms.{IsConsistent};
 ghost use Rattle.tso_ops.specs.Events.{IsUnwritten};
 ghost use Rattle.log_text.specs.LogTexts.{SpellsLog};
+ghost use Rattle.log_text.specs.Tags.{AreTagsOf};
 ghost use Rattle.log_text.specs.LogValues.{NumberedLog, log_operations, log_value};
 ghost use Rattle.tso_text.specs.declared.faults.Why.{Why};
 ghost use Rattle.log_reports.specs.LogReports.{IsLogReportOfReader, IsReportOf, verdict_of};
@@ -16,7 +17,7 @@ use crate::findings::find_violations;
 use crate::forms::LogFound;
 use crate::notes::render_notes;
 use log_selections::KnownLog;
-use log_text::{Log, read_log};
+use log_text::{LineTags, Log, read_log, read_tags};
 use progress_meters::TotalMeter;
 use request_options::LogOptions;
 use std::alloc::Global;
@@ -105,23 +106,25 @@ fn read_report<
     let text = read_all(alloc, reader, usize::MAX)?;
     match read_log(alloc, &text, reporting.options.needs_end) {
         Ok(log) => {
+            let tags = read_tags(alloc, &text)?;
             // A long log's text takes memory that the search needs.
             drop(text);
-            report_on(rt, reporting, meter, log)
+            report_on(rt, reporting, meter, log, tags)
         }
         Err(fault) => Ok(refuse(alloc, reporting.rendering, &text, fault)?),
     }
 }
 
-/// The report on a log.
+/// The report on a log, the lines of which have these tags.
 fn report_on<H: Threads + Wait + AllocGlobal, P: Rendering<KnownLog, LogFound>, M: TotalMeter>(
     rt: &H,
     reporting: &LogReporting<'_, P>,
     meter: &M,
     log: Log,
+    tags: LineTags,
 ) -> Result<LogReport, Fault>
-    ensures report { IfOk result (λ report. IsReportOf (P.rendered reporting.now.rendering.now) (log_value log) reporting.now.options
-        (string_bytes report.text) report.verdict) }
+    ensures report { IfOk result (λ report. (bytes : List ℕ) → AreTagsOf bytes tags → IsReportOf (P.rendered reporting.now.rendering.now) (log_value log) bytes
+        reporting.now.options (string_bytes report.text) report.verdict) }
     ensures fault { IfErr result (λ fault. (fault ≡ Fault.OutOfMemory) ⊎ (fault ≡ Fault.NoThread)) }
 {
     let alloc = rt.alloc();
@@ -135,6 +138,7 @@ fn report_on<H: Threads + Wait + AllocGlobal, P: Rendering<KnownLog, LogFound>, 
         options,
         counts,
         findings,
+        tags,
     };
     Ok(LogReport {
         text: rendering.text_of_found(alloc, &known, &found)?,
@@ -151,6 +155,7 @@ fn verdict_of(found: &LogFound) -> Result<Answer, OutOfMemory>
         options,
         counts,
         findings,
+        ..
     } = found;
     let is_too_unknown = counts.is_too_unknown(options.max_unknown)?;
     if !findings.violations.is_empty() {

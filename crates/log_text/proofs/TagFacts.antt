@@ -94,7 +94,7 @@ lines_ascii (text ∷ texts) (line ∷ lines) said (suc k) = let others : map li
 pub tags_ascii : (text : List ℕ) (log : NumberedLog) → SpellsLog text log → (number : ℕ) → IsAscii (tag_at (parts_of text) number)
 tags_ascii text log spells number =
     let line : IsAscii (get_or (parts_of text) (number - 1) []) =
-        subst (λ (parts : List (List ℕ)). IsAscii (get_or parts (number - 1) [])) (sym spells.whole) (lines_ascii spells.texts spells.lines spells.said.said (number - 1)) in
+    subst (λ (parts : List (List ℕ)). IsAscii (get_or parts (number - 1) [])) (sym spells.whole) (lines_ascii spells.texts spells.lines spells.said.said (number - 1)) in
     IsAscii-drop (get_or (parts_of text) (number - 1) []) (length (before_tag (get_or (parts_of text) (number - 1) []))) line
 
 -- ---- one line after another

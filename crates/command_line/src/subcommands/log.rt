@@ -26,8 +26,8 @@ first line may be `model pso`, for Partial Store Order; without it STBAR says
 nothing. Lines `init A V`, before all operations, say what memory has at first,
 later ones over earlier ones: 0 at all other addresses. A last line `end` says
 that the log is whole; with --ended a log without it is refused, as one that was
-cut off. A line may end with ` #` and any text, and one that begins with `#`
-says nothing.
+cut off. A line may end with ` #` and any text, which the report repeats; one
+that begins with `#` says nothing.
 
 A run that says when its stores reach memory is a log too: `P lr A R` is a load,
 `P wr A V` and `P sc A V` are stores, and lines `dr` and `last` say nothing.

@@ -9,19 +9,21 @@ use Rattle.log_reports.specs.declared.counts.LogCounts.{LogCounts}
 use Rattle.log_reports.proofs.reports.report_on.Goals as goal
 
 pub returns-clause-report : goal.returns-clause-report
-returns-clause-report g c =
+returns-clause-report g c bytes tagged =
     let findings = c.in_ok-findings.findings in
     let options = c.args.reporting.now.options in
     let said = g.P.Rendering.rendered c.args.reporting.now.rendering.now in
     let unknown = c.ambiguous_loads.result in
     let log = c.in_ok-known.ensures in
-    let with_counts : LogCounts → LogFound = λ n. record { options = options; counts = n; findings = findings } in
+    let with_counts : LogCounts → LogFound = λ n. record { options = options; counts = n; findings = findings; tags = c.args.tags } in
     let counts = c.in_ok-counts.ensures ∙ ap (λ (v : NumberedLog). counts_of v unknown) (c.log.ensures ∙ log) in
     record {
       findings = findings;
       found = subst (λ (v : NumberedLog). AreFindings v findings) log c.in_ok-findings.ensures.found;
       few = c.in_ok-findings.ensures.few;
       written = subst (λ (v : NumberedLog). AreWrittenIn v findings) log c.in_ok-findings.ensures.written;
+      tags = c.args.tags;
+      tagged = tagged;
       unknown = unknown;
       counted = subst (λ (v : NumberedLog). IsAmbiguousCount v unknown) log c.ambiguous_loads.ensures;
       says = c.in_ok-text_of_found.ensures ∙ ap (λ (v : NumberedLog). said v (with_counts c.in_ok-counts.counts)) log ∙ ap (λ n. said (log_value c.args.log) (with_counts n)) counts;
