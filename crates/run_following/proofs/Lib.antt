@@ -1,5 +1,6 @@
 pub mod AppendedFacts
 pub mod EndingFacts
+pub mod ExactFacts
 pub mod FollowFacts
 pub mod KeptFacts
 pub mod NotedFacts

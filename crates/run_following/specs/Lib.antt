@@ -1,5 +1,6 @@
 pub mod Accounts
 pub mod Counts
+pub mod Exactness
 pub mod Facts
 pub mod Found
 pub mod Internal

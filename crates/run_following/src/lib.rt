@@ -17,6 +17,7 @@ mod forms;
 mod found;
 mod json_lines;
 mod kept_lines;
+pub mod laws;
 mod noted;
 mod reports;
 mod sentences;
