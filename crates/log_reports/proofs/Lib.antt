@@ -5,3 +5,4 @@ pub mod CountFacts
 pub mod NameFacts
 pub mod ReadFacts
 pub mod RefusalFacts
+pub mod RepeatedTags

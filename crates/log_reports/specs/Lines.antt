@@ -18,7 +18,9 @@ repeated tag = cond (is_utf8 tag) tag []
 
 -- a line of the log, with its tag, where the lines of these numbers have these tags
 abbrev pub log_line_text : (ℕ → List ℕ) → Shown → List ℕ
-log_line_text tags s = codes "line " ++ decimal s.logged.line ++ codes " " ++ decimal s.processor ++ codes " " ++ operation_text s.logged.operation ++ repeated (tags s.logged.line) ++ codes "\n"
+log_line_text tags s =
+    codes "line " ++ decimal s.logged.line ++ codes " " ++ decimal s.processor ++ codes " " ++ operation_text s.logged.operation
+    ++ repeated (tags s.logged.line) ++ codes "\n"
 
 abbrev pub log_lines_text : (ℕ → List ℕ) → List Shown → List ℕ
 log_lines_text tags shown = flat_map (log_line_text tags) shown

@@ -100,7 +100,8 @@ total_text findings = cond (is_empty findings.violations.items) [] (count_text (
 abbrev pub report_text : SaidAfterLines → LogFound → List ℕ
 report_text after found =
     counts_text found.counts ++ verdict_text found
-    ++ numbered_from (violation_text after (tag_in found.tags) found.counts.processors) (codes "violation ") 1 found.findings.violations.items ++ total_text found.findings
+    ++ numbered_from (violation_text after (tag_in found.tags) found.counts.processors) (codes "violation ") 1 found.findings.violations.items
+    ++ total_text found.findings
     ++ numbered_from (λ shown. log_lines_text (tag_in found.tags) shown.items) (codes "unjudged ") 1 found.findings.unjudged.items
 
 -- the text of a violation's trace: of a load of what nothing wrote it is such a load alone

@@ -1,7 +1,7 @@
 //! Of the crates of values and texts.
 
 use drawn_programs::{Shape, make_program};
-use log_text::{Log, read_log};
+use log_text::{LineTags, Log, read_log, read_tags};
 use rand_core::Rng;
 use run_lines::{RunText, Widths, line_read};
 use std::alloc::Global;
@@ -55,6 +55,12 @@ pub fn evidence_of_a_text(
 pub fn log_of_a_text(alloc: Global, text: &[u8]) -> Result<Log, TextFault> {
     let log = read_log(alloc, text, false)?;
     Ok(log)
+}
+
+/// `log_text`: the tags of a text's lines.
+pub fn tags_of_a_text(alloc: Global, text: &[u8]) -> Result<LineTags, OutOfMemory> {
+    let tags = read_tags(alloc, text)?;
+    Ok(tags)
 }
 
 /// `run_lines`: what the first line of a text says.
