@@ -15,8 +15,7 @@ use Rattle.run_steps.specs.declared.places.Place.{Place}
 use Rattle.run_steps.specs.declared.steps.RunLine.{RunLine}
 use Rattle.run_steps.specs.declared.steps.RunStep.{RunStep}
 use Rattle.run_steps.specs.declared.steps.RunStep.TheVariants.{Load, Store, Drain, Write, Swap, Reserve, StoreReserved, Membar, Stbar, Unknown, Last}
-use Rattle.run_steps.specs.Machine.{MachineState, beginning_state, line_refusals, presetting, state_after_line}
-use Rattle.run_steps.specs.Reads.{RefusalValue}
+use Rattle.run_steps.specs.Machine.{MachineState, beginning_state, presetting, state_after_line}
 use Rattle.run_steps.specs.Runs.{refusals_from, state_after}
 use Rattle.run_lines.specs.declared.arguments.Widths.{Widths}
 use Rattle.run_lines.specs.declared.arguments.Widths.TheVariants.{Unseen, Locations, Bytes}
@@ -26,9 +25,9 @@ use Rattle.run_lines.specs.Lines.{text_numbers}
 use Rattle.run_following.specs.declared.stages.Stage.{Stage}
 use Rattle.run_following.specs.declared.stages.Stage.TheVariants as stage
 use Rattle.run_following.specs.Accounts.{Account, account_at_start, is_full, said_fault, with_line}
-use Rattle.run_following.specs.Facts.{RefusalTold, kind_of, told}
+use Rattle.run_following.specs.Exactness.{refused_kind, told_kind}
 use Rattle.run_following.specs.KeptLines.{text_at}
-use Rattle.run_following.specs.declared.facts.RefusalKind.{RefusalKind}
+use Rattle.run_following.proofs.ExactFacts.{state-push, told_more}
 use Rattle.run_following.specs.PlacesSaid.{place_of_step, widths_of}
 use Rattle.run_following.specs.Stages.{stage_after}
 use Rattle.log_text.specs.declared.lines.LogLine.{LogLine}
@@ -49,20 +48,6 @@ IsEarly stage.Firsts = Unit {0}
 IsEarly stage.Steps = ⊥
 IsEarly stage.Ended = ⊥
 
--- the line that is told of, and why it is no step
-abbrev pub told_kind : RefusalTold → ℕ × RefusalKind
-told_kind t = (t.line.0, t.kind)
-
-abbrev pub refused_kind : ℕ × RefusalValue → ℕ × RefusalKind
-refused_kind r = (r.0, kind_of r.1)
-
-abbrev numbered : ℕ → RefusalValue → ℕ × RefusalValue
-numbered n refusal = (n, refusal)
-
-kinds_told : (lines : ℕ → List ℕ) (n : ℕ) (refusals : List RefusalValue) → map told_kind (map (told lines n) refusals) ≡ map refused_kind (map (numbered n) refusals)
-kinds_told lines n [] = refl
-kinds_told lines n (r ∷ refusals) = ap (λ ks. (n, kind_of r) ∷ ks) (kinds_told lines n refusals)
-
 -- These lines of a log have the steps of the account, which are at locations; the steps begin in a state with the log's first values, and the account has their
 -- state, and what is told of lines is of the lines that the machine refuses, and of the kinds of their refusals.
 pub record Accounts (lines : List LogLine) (account : Account) : Type 0 where
@@ -80,18 +65,6 @@ pub record Accounts (lines : List LogLine) (account : Account) : Type 0 where
   pub early : IsEarly account.stage → account.steps ≡ []
 
 -- ---- more steps
-
-state-push : (s : MachineState) (lines : List RunLine) (line : RunLine) → state_after s (lines ++ line ∷ []) ≡ state_after_line line (state_after s lines)
-state-push s [] line = refl
-state-push s (other ∷ lines) line = state-push (state_after_line other s) lines line
-
-refusals-push : (model : Order) (s : MachineState) (lines : List RunLine) (line : RunLine) →
-    refusals_from model s (lines ++ line ∷ []) ≡ refusals_from model s lines ++ map (numbered line.number) (line_refusals model line (state_after s lines))
-refusals-push model s [] line = append-nil (map (numbered line.number) (line_refusals model line s))
-refusals-push model s (other ∷ lines) line =
-    let here = map (numbered other.number) (line_refusals model other s) in
-    ap (λ rs. here ++ rs) (refusals-push model (state_after_line other s) lines line)
-    ∙ sym (append_assoc here (refusals_from model (state_after_line other s) lines) (map (numbered line.number) (line_refusals model line (state_after s (other ∷ lines)))))
 
 numbers-push : (least : ℕ) (lines : List RunLine) (line : RunLine) → AreNumberedAbove least lines → least < line.number →
     AllByRecursion (λ other. other.number < line.number) lines → AreNumberedAbove least (lines ++ line ∷ [])
@@ -318,15 +291,7 @@ module _ (lines : List LogLine) (account : Account) (accounts : Accounts lines a
       processors = accounts.processors;
       state = ap (state_after_line next) accounts.state ∙ sym (state-push accounts.first account.steps next);
       refusals =
-          let lines_at = text_at (account.texts ++ line ∷ []) in
-          let before = refusals_from account.model accounts.first account.steps in
-          let found = line_refusals account.model next account.state in
-          map-append told_kind account.refusals (map (told lines_at next.number) found)
-          ∙ ap (λ ks. ks ++ map told_kind (map (told lines_at next.number) found)) accounts.refusals
-          ∙ ap (λ ks. map refused_kind before ++ ks) (kinds_told lines_at next.number found)
-          ∙ ap (λ s. map refused_kind before ++ map refused_kind (map (numbered next.number) (line_refusals account.model next s))) accounts.state
-          ∙ sym (map-append refused_kind before (map (numbered next.number) (line_refusals account.model next (state_after accounts.first account.steps))))
-          ∙ sym (ap (map refused_kind) (refusals-push account.model accounts.first account.steps next));
+          told_more account.model accounts.first account.steps next (text_at (account.texts ++ line ∷ [])) account.state account.refusals accounts.state accounts.refusals;
       model = order_kept (logged_line next) is_told.model;
       widths = step_widths account.widths step accounts.widths location;
       early = λ none. absurd none;

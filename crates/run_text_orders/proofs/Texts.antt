@@ -21,7 +21,9 @@ use Rattle.log_text.specs.LogTexts.{SpellsLog}
 use Rattle.log_text.specs.LogValues.{NumberedLog, log_operations}
 use Rattle.run_orders.specs.RunLogs.{IsHeldRun}
 use Rattle.run_orders.proofs.Orders.{log_order}
-use Rattle.run_text_orders.proofs.Accounts.{Accounts, accepted_more, at_start, refused_kind, told_kind}
+use Rattle.run_following.specs.Exactness.{refused_kind, told_kind}
+use Rattle.run_following.proofs.ExactFacts.{none_mapped}
+use Rattle.run_text_orders.proofs.Accounts.{Accounts, accepted_more, at_start}
 use Rattle.run_text_orders.proofs.Readings.{IsLineWidthless, read_same}
 
 -- what was read of a line that says something
@@ -55,10 +57,6 @@ all_lines (t ∷ texts) (line ∷ lines) before from to accounts leads is =
     let rest : map line_said texts ≡ map Ok lines = cc in
     subst (λ ls. Accounts ls to) (append_assoc before (line ∷ []) lines)
     (all_lines texts lines (before ++ line ∷ []) leads.0 to (next_line before from leads.0 t line accounts leads.1 here) leads.2 rest)
-
-none_mapped : {X Y : Type 0} (f : X → Y) (xs : List X) → map f xs ≡ [] → xs ≡ []
-none_mapped f [] none = refl
-none_mapped f (x ∷ xs) none = absurd cc
 
 held : (lines : List LogLine) (account : Account) (accounts : Accounts lines account) → account.refusals ≡ [] → IsHeldRun lines accounts.first account.steps
 held lines account accounts none = record {
