@@ -15,13 +15,12 @@ use Rattle.run_steps.specs.Machine.{MachineState, beginning_state, line_refusals
 use Rattle.run_steps.specs.Reads.{RefusalValue}
 use Rattle.run_steps.specs.Runs.{HoldsFrom, IsFirstRefused, refusals_from, state_after}
 use Rattle.run_steps.proofs.RunFacts.{first_refused, holds_exactly}
-use Rattle.run_following.specs.Accounts.{Account, IsAccepted, account_at_start, is_full, said_fault, with_line}
+use Rattle.run_following.specs.Accounts.{Account, account_at_start, is_full, said_fault, with_line}
 use Rattle.run_following.specs.Exactness.{IsRunFromStart, refused_kind, told_kind, with_preset}
 use Rattle.run_following.specs.Facts.{RefusalTold, kind_of, told}
 use Rattle.run_following.specs.KeptLines.{text_at}
 use Rattle.run_following.specs.Runs.{IsOfLines, LeadsTo}
 use Rattle.run_following.specs.Stages.{stage_after}
-use Rattle.run_following.specs.declared.facts.RefusalKind.{RefusalKind}
 use Rattle.run_following.specs.declared.stages.Stage.{Stage}
 use Rattle.run_following.specs.declared.stages.Stage.TheVariants as stage
 

@@ -1,12 +1,11 @@
 -- Lemmas on the lines that are kept.
-use Rattle.std.proofs.Common.{rules, ◌≡◌, ◌∙◌, refl, sym, ap, subst, ℕ, zero, suc, ◌-◌, ◌==◌, ◌||◌, eqb, cond, Bool, true, false, IsTrue, List, [], ◌∷◌, ◌++◌, length, map, Option, None, Some, get_or, slice_get, arith}
+use Rattle.std.proofs.Common.{◌≡◌, ◌∙◌, refl, sym, ap, subst, ℕ, zero, suc, ◌-◌, ◌==◌, ◌||◌, cond, Bool, true, false, IsTrue, List, [], ◌∷◌, ◌++◌, length, map, Option, None, Some, slice_get, arith}
 use Rattle.std.specs.List.{AllByRecursion, filter, find, list_any}
 use Rattle.std.specs.Option.{option_map_or}
 use Rattle.std.specs.Prelude.{IfSome}
 use Rattle.std.proofs.lemmas.Bool.{eq-eqb, eqb-true}
 use Rattle.std.proofs.lemmas.Map.Views.{any-filter_same}
 use Rattle.std.proofs.lemmas.Option.{get_or_from_slice_get}
-use Rattle.run_steps.specs.declared.blocks.Block.{Block}
 use Rattle.run_steps.specs.declared.cells.Cell.{Cell}
 use Rattle.run_steps.specs.declared.cells.Cell.TheVariants.{First, Stored, Unknown}
 use Rattle.run_steps.specs.declared.processors.Taken.{Taken}
@@ -17,7 +16,7 @@ use Rattle.run_steps.specs.declared.refusals.Origin.TheVariants as origin
 use Rattle.run_steps.specs.Machine.{MachineState, ProcessorState}
 use Rattle.run_steps.specs.Names.{CellNames, OriginNames, ProcessorNames, RefusalNames, StateNames}
 use Rattle.run_steps.specs.Reads.{RefusalValue, value, waiting, order, nothing_waits, reservation, no_reservation}
-use Rattle.run_following.specs.Facts.{FactValue, has, origin_fact, store_fact, told}
+use Rattle.run_following.specs.Facts.{origin_fact, store_fact, told}
 use Rattle.run_following.specs.KeptLines.{AreKept, IsKeptOf, has_kept, kept_text, line_number, text_at}
 use Rattle.run_following.specs.declared.facts.Standing.{Standing}
 use Rattle.run_following.specs.declared.facts.Standing.TheVariants as standing

@@ -3,6 +3,7 @@ ghost use Rattle.std.specs.Prelude.{◌≡◌, ◌++◌, ◌∷◌, [], IsTrue, 
 ghost use Rattle.std.specs.HashSet.{contains};
 ghost use Rattle.run_following.specs.KeptLines.{kept_text, line_number};
 
+use smallvec::SmallVec;
 use std::alloc::Global;
 use std::collections::HashSet;
 use tso_ops::OutOfMemory;
@@ -10,13 +11,16 @@ use tso_ops::OutOfMemory;
 /// How many lines are kept at least before some are forgotten.
 const LEAST_ROOM: usize = 65_536;
 
+/// How many bytes of a line are kept without an allocation of its own.
+const INLINE_BYTES: usize = 24;
+
 /// A line of a text.
 #[derive(Debug, Drop)]
 pub(crate) struct KeptLine {
     /// Its number, from 1.
     pub(crate) number: u64,
     /// What it says, without its line end.
-    pub(crate) text: Vec<u8>,
+    pub(crate) text: SmallVec<u8, INLINE_BYTES>,
 }
 
 /// The lines of a text so far, but those that were forgotten.
@@ -47,8 +51,7 @@ impl KeptLines {
     ) -> Result<(), OutOfMemory>
         ensures { OnOk result ((kept : KeptLine) × (self.new.lines.items ≡ self.old.lines.items ++ kept ∷ []) × (kept.number ≡ number) × (kept.text.items ≡ line.now)) }
     {
-        let mut text = Vec::new(alloc);
-        text.extend_from_slice(line)?;
+        let text = SmallVec::from_slice(alloc, line)?;
         self.lines.push(KeptLine { number, text })?;
         Ok(())
     }
@@ -73,7 +76,7 @@ impl KeptLines {
     {
         for line in &self.lines {
             if line.number == number {
-                return &line.text;
+                return line.text.as_slice();
             }
         }
         &[]

@@ -1,11 +1,10 @@
 -- What an account of a run has, and how one more line changes it, beside what the same lines say to a log.
-use Rattle.std.proofs.Common.{◌≡◌, ◌∙◌, sym, ap, refl, subst, inl, inr, ℕ, suc, ◌<◌, ◌≤◌, Bool, true, false, cond, if◌then◌else◌, eq-eqb, fold, map, filter, Option, None, Some, List, [], ◌∷◌, ◌++◌, length, append_assoc, append-nil, arith}
+use Rattle.std.proofs.Common.{◌≡◌, ◌∙◌, sym, ap, refl, subst, inl, inr, ℕ, suc, ◌<◌, ◌≤◌, Bool, true, false, cond, if◌then◌else◌, eq-eqb, fold, map, filter, Option, None, Some, List, [], ◌∷◌, ◌++◌, length, append-nil, arith}
 use Rattle.std.specs.List.{AllByRecursion}
 use Rattle.std.specs.Option.{option_map_or}
 use Rattle.std.proofs.lemmas.Bool.{cases_eq}
 use Rattle.std.proofs.lemmas.List.{length_push, map-append}
 use Rattle.std.proofs.lemmas.List.Elements.{filter-append}
-use Rattle.tso_ops.specs.declared.settings.Order.{Order}
 use Rattle.tso_ops.specs.declared.settings.Order.TheVariants.{Pso}
 use Rattle.tso_ops.specs.Settings.{first_value}
 use Rattle.tso_text.specs.declared.faults.Why.{Why}

@@ -4,6 +4,7 @@ use Rattle.std.proofs.lemmas.Bool.Decides.{nat_tests}
 use Rattle.std.proofs.lemmas.List.{append_cancel_right}
 use Rattle.tso_text.specs.declared.faults.Why.{Why}
 use Rattle.tso_model.specs.Axioms.{IsConsistent}
+use Rattle.request_options.specs.declared.logs.LogOptions.{LogOptions}
 use Rattle.request_options.specs.declared.following.FollowOptions.{FollowOptions}
 use Rattle.trace_reports.specs.Renderings.{RendersRefusal}
 use Rattle.trace_reports.specs.declared.answers.Answer.{Answer}
@@ -15,6 +16,8 @@ use Rattle.run_lines.specs.Lines.{LineNumbers, line_read, text_numbers}
 use Rattle.run_following.specs.Accounts.{Account, IsAccepted, account_at_start}
 use Rattle.run_following.specs.Reports.{IsRunReport, RendersRun}
 use Rattle.run_following.specs.Runs.{LeadsTo, SpellsRun}
+use Rattle.log_reports.specs.LogReports.{IsLogReport, RendersLog}
+use Rattle.log_reports.proofs.ViolationFacts.{report_violation}
 use Rattle.log_text.specs.declared.lines.LogLine.{LogLine}
 use Rattle.log_text.specs.LogLines.{line_said, line_told, result_told}
 use Rattle.log_text.specs.LogTexts.{SpellsLog}
@@ -103,3 +106,13 @@ report_order renders refused options bytes text answer log (inl (account, follow
       | inr part ↦ absurd (part.1.refused none)
     ]
 report_order renders refused options bytes text answer log (inr refusal) no_violation no_refusal spells = absurd (no_refusal refusal.gives)
+
+-- a report on the log that is a violation is of a log without an order
+pub no_violation : (renders : RendersRun) (refused : RendersRefusal) (options : FollowOptions) (bytes text : List ℕ) (answer : Answer) (log_renders : RendersLog)
+    (log_refused : RendersRefusal) (log_options : LogOptions) (log_report : List ℕ) → IsRunReport renders refused options bytes text answer → answer ≢ Violation →
+    answer ≢ Refused → IsLogReport log_renders log_refused log_options bytes log_report Violation → ⊥
+no_violation renders refused options bytes text answer log_renders log_refused log_options log_report run other_one other_two (inl (log, spells, ended, report)) =
+    report_violation log_renders log_refused log_options bytes log_report (inl (log, spells, ended, report)) log spells
+    (report_order renders refused options bytes text answer log run other_one other_two spells)
+no_violation renders refused options bytes text answer log_renders log_refused log_options log_report run other_one other_two (inr refusal) =
+    let is : Violation ≡ Refused = refusal.gives in absurd cc

@@ -5,10 +5,12 @@ ghost use Rattle.tso_model.specs.Axioms.{IsConsistent};
 ghost use Rattle.trace_reports.specs.Renderings.{RendersRefusal};
 ghost use Rattle.trace_reports.specs.declared.answers.Answer.{Answer};
 ghost use Rattle.trace_reports.specs.declared.answers.Answer.TheVariants.{Refused, Violation};
+ghost use Rattle.request_options.specs.declared.logs.LogOptions.{LogOptions};
 ghost use Rattle.request_options.specs.declared.following.FollowOptions.{FollowOptions};
 ghost use Rattle.run_following.specs.Accounts.{Account};
 ghost use Rattle.run_following.specs.Reports.{IsRunReport, RendersRun};
 ghost use Rattle.run_following.specs.Runs.{SpellsRun};
+ghost use Rattle.log_reports.specs.LogReports.{IsLogReport, RendersLog};
 ghost use Rattle.log_text.specs.LogTexts.{SpellsLog};
 ghost use Rattle.log_text.specs.LogValues.{NumberedLog, log_operations};
 
@@ -20,4 +22,11 @@ pub fn texts_of_runs_have_orders()
     ensures reported { (renders : RendersRun) (refused : RendersRefusal) (options : FollowOptions) (bytes text : List ℕ) (answer : Answer) (log : NumberedLog) →
         IsRunReport renders refused options bytes text answer → answer ≢ Violation → answer ≢ Refused → SpellsLog bytes log →
         IsConsistent (log_operations log) }
+{}
+
+/// Where the report on a text as a run says neither a violation nor a refusal, no report on it as a log says a violation.
+pub fn runs_that_hold_are_never_violations()
+    ensures { (renders : RendersRun) (refused : RendersRefusal) (options : FollowOptions) (bytes text : List ℕ) (answer : Answer) (log_renders : RendersLog)
+        (log_refused : RendersRefusal) (log_options : LogOptions) (log_report : List ℕ) → IsRunReport renders refused options bytes text answer →
+        answer ≢ Violation → answer ≢ Refused → IsLogReport log_renders log_refused log_options bytes log_report Violation → ⊥ }
 {}

@@ -1,7 +1,6 @@
-use Rattle.std.proofs.Common.{◌∙◌, ap, subst, sym}
+use Rattle.std.proofs.Common.{◌∙◌, ap}
 use Rattle.run_steps.specs.Machine.{presetting}
 use Rattle.run_steps.proofs.NameFacts.{preset}
-use Rattle.run_following.specs.Accounts.{Follows, with_said}
 use Rattle.run_following.specs.KeptLines.{has_kept}
 use Rattle.run_following.proofs.followers.Follower.follow.Goals as goal
 
