@@ -1,5 +1,5 @@
 -- Lemmas on how a run ends.
-use Rattle.std.proofs.Common.{◌≡◌, ◌∙◌, refl, sym, ap, subst, inl, inr, ℕ, ◌==◌, true, false, List, [], ◌∷◌, ◌++◌, take, Option, None, Some, append_assoc}
+use Rattle.std.proofs.Common.{◌≡◌, ◌∙◌, refl, sym, ap, subst, inl, inr, ℕ, ◌==◌, ◌≤◌, true, false, List, [], ◌∷◌, ◌++◌, length, take, Option, None, Some, append_assoc}
 use Rattle.std.specs.Io.KnownBytes.{Consumes, IsAtEnd}
 use Rattle.std.proofs.KnownBytes.{Consumes-nil, Consumes-trans, Consumes-whole}
 use Rattle.std.specs.List.{onto_first}
@@ -15,7 +15,7 @@ use Rattle.tso_text.specs.declared.faults.TextFault.{TextFault}
 use Rattle.run_following.specs.Accounts.{Account, Follows}
 use Rattle.run_following.specs.Internal.Endings.{EndsText, HasFollowed, refusal_of_stop}
 use Rattle.run_following.specs.Internal.Streams.{EndsAt, IsCutOff, StandsAt, StopsAfter, has_line_end}
-use Rattle.run_following.specs.Runs.{IsRunRefusal}
+use Rattle.run_following.specs.Runs.{IsRunRefusal, IsTakenInTime}
 use Rattle.run_following.specs.declared.streams.RunStream.{RunStream}
 use Rattle.run_following.specs.declared.streams.Stop.{Stop}
 use Rattle.run_following.specs.declared.streams.Stop.TheVariants.{Refused, Told}
@@ -138,8 +138,21 @@ module _ (options : FollowOptions) (remaining before now : Option (List ℕ)) (o
   line_ends fast (Refused fault) ends = reads_begun _ remaining now (s.bytes ++ chunk) all_read (λ later. refused_there options new (s.bytes ++ chunk) later (fast ∙ s.fast) fault (ends s.bytes s.stands))
   line_ends fast Told ends = reads_begun _ remaining now (s.bytes ++ chunk) all_read (λ later. told_there options new (s.bytes ++ chunk) later (fast ∙ s.fast) (ends s.bytes s.stands))
 
-pub taken_more : (options : FollowOptions) (remaining before now : Option (List ℕ)) (stream : RunStream) (chunk : List ℕ) → HasFollowed options remaining before stream → Consumes before now chunk → (bytes : List ℕ) × Consumes remaining now bytes
-taken_more options remaining before now stream chunk s taken = (s.bytes ++ chunk, Consumes-trans remaining before now s.bytes chunk s.taken taken)
+pub taken_more : (options : FollowOptions) (remaining before now : Option (List ℕ)) (stream : RunStream) (chunk : List ℕ) → HasFollowed options remaining before stream → Consumes before now chunk →
+    length chunk ≤ 65536 → IsTakenInTime options.is_fast remaining now
+taken_more options remaining before now stream chunk s taken few = (
+  s.bytes,
+  chunk,
+  Consumes-trans remaining before now s.bytes chunk s.taken taken,
+  record {
+    account = s.stands.account;
+    begun = stream.pending.items;
+    whole = cut_at_end options stream s.bytes s.stands s.fast;
+    leads = s.stands.leads;
+    clean = clean_before options stream s.bytes s.stands s.fast;
+  },
+  few,
+)
 
 pub followed_to_end : (options : FollowOptions) (remaining before now : Option (List ℕ)) (stream : RunStream) (chunk : List ℕ) (count : ℕ) → count ≡ 0 → HasFollowed options remaining before stream →
     Consumes before now (take count chunk) → IsAtEnd now → (fault : Option TextFault) → ((account : Account) → Follows stream.follower account → IsCutOff stream account options.needs_end fault) →

@@ -1,5 +1,6 @@
 -- The runs that texts spell, and how texts are refused.
-use Rattle.std.specs.Prelude.{◌≡◌, ◌≢◌, ◌⊎◌, ℕ, suc, Bool, true, List, [], ◌∷◌, ◌++◌, length}
+use Rattle.std.specs.Prelude.{◌≡◌, ◌≢◌, ◌⊎◌, ◌≤◌, ℕ, suc, Bool, true, List, [], ◌∷◌, ◌++◌, length, Option}
+use Rattle.std.specs.Io.KnownBytes.{Consumes}
 use Rattle.line_text.specs.Lines.{parts_of}
 use Rattle.tso_text.specs.declared.faults.Why.{Why}
 use Rattle.tso_text.specs.declared.faults.Why.TheVariants.{BadLine}
@@ -36,6 +37,19 @@ pub record BeginsRefused (text : List ℕ) (account : Account) : Type 0 where
 abbrev pub IsFollowed : Bool → Bool → List ℕ → Account → Type 0
 IsFollowed needs_end is_fast text account =
     (SpellsRun needs_end text account × (is_fast ≡ true → account.refusals ≡ [])) ⊎ ((is_fast ≡ true) × BeginsRefused text account)
+
+-- No line that ends within the bytes ends the run: they are lines that may follow one another, each a step where the first that is none ends the run, and
+-- the beginning of a line.
+pub record GoesOn (is_fast : Bool) (bytes : List ℕ) : Type 0 where
+  pub account : Account
+  pub begun : List ℕ
+  pub whole : parts_of bytes ≡ account.texts ++ begun ∷ []
+  pub leads : IsOfLines account
+  pub clean : is_fast ≡ true → account.refusals ≡ []
+
+-- What was taken of a reader's bytes: the run goes on after all but the last of them, of which one call of `read` gave at most 65,536.
+abbrev pub IsTakenInTime : Bool → Option (List ℕ) → Option (List ℕ) → Type 0
+IsTakenInTime is_fast remaining now = (before : List ℕ) × (last : List ℕ) × Consumes remaining now (before ++ last) × GoesOn is_fast before × (length last ≤ 65536)
 
 -- A part of a text is refused after these lines: it may not follow, or it is the last part and no line end follows it, or none of the lines is an `end` that the text needs.
 abbrev pub IsRunPartRefused : Bool → Account → List ℕ → List (List ℕ) → Why → Type 0

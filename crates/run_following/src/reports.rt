@@ -1,12 +1,12 @@
 //! From the bytes of a run to its report.
 ghost use Rattle.std.specs.Prelude.{◌≡◌, ◌≢◌, List, ℕ, IfOk, IfErr, string_bytes};
-ghost use Rattle.std.specs.Io.KnownBytes.{Consumes};
 ghost use Rattle.text_streams.specs.WrittenTexts.{LeavesAtFault, WritesWhole};
 ghost use Rattle.text_streams.specs.declared.faults.Fault.TheVariants.{NoThread};
 ghost use Rattle.request_options.specs.declared.following.FollowOptions.{FollowOptions};
 ghost use Rattle.run_following.specs.Internal.Endings.{EndsText, IsEnding, refusal_of_stop};
 ghost use Rattle.run_following.specs.Internal.Faults.{IsRunFault};
 ghost use Rattle.run_following.specs.Reports.{IsRunReport, IsRunReportOfReader};
+ghost use Rattle.run_following.specs.Runs.{IsTakenInTime};
 
 use crate::found::RunFound;
 use crate::streams::{RunStream, Stop};
@@ -48,7 +48,7 @@ pub fn follow_run<P: Rendering<(), RunFound>, M: Meter, R: Read, W: Write>(
     ensures report { IfOk result (WritesWhole
         (IsRunReportOfReader (P.rendered rendering.now tt) (P.refused rendering.now) options (R.remaining reader.old))
         (W.contents writer.old) (W.contents writer.new)) }
-    ensures taken { IfOk result (λ _. (bytes : List ℕ) × Consumes (R.remaining reader.old) (R.remaining reader.new) bytes) }
+    ensures taken { IfOk result (λ _. IsTakenInTime options.is_fast (R.remaining reader.old) (R.remaining reader.new)) }
     ensures no_thread { IfErr result (λ fault. fault ≢ NoThread) }
     ensures left { IfErr result (LeavesAtFault
         (IsRunReportOfReader (P.rendered rendering.now tt) (P.refused rendering.now) options (R.remaining reader.old))
@@ -69,7 +69,7 @@ fn read_report<P: Rendering<(), RunFound>, M: Meter, R: Read>(
 ) -> Result<Report<Answer>, Fault>
     ensures report { IfOk result (λ report. IsRunReportOfReader (P.rendered rendering.now tt) (P.refused rendering.now) options
         (R.remaining reader.old) (string_bytes report.text) report.verdict) }
-    ensures taken { IfOk result (λ _. (bytes : List ℕ) × Consumes (R.remaining reader.old) (R.remaining reader.new) bytes) }
+    ensures taken { IfOk result (λ _. IsTakenInTime options.is_fast (R.remaining reader.old) (R.remaining reader.new)) }
     ensures fault { IfErr result IsRunFault }
 {
     let ending = read_run(alloc, options, meter, reader)?;
@@ -107,7 +107,7 @@ fn read_run<M: Meter, R: Read>(
 ) -> Result<Ending, Fault>
     ensures ending { IfOk result (IsEnding options (R.remaining reader.old)) }
     ensures most { IfOk result (λ ending. ending.stream.follower.noted.most ≡ options.most) }
-    ensures taken { IfOk result (λ _. (bytes : List ℕ) × Consumes (R.remaining reader.old) (R.remaining reader.new) bytes) }
+    ensures taken { IfOk result (λ _. IsTakenInTime options.is_fast (R.remaining reader.old) (R.remaining reader.new)) }
     ensures fault { IfErr result IsRunFault }
 {
     let mut stream = RunStream::new(alloc, options.most, options.is_fast);

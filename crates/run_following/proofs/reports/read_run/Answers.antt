@@ -1,4 +1,5 @@
-use Rattle.std.proofs.Common.{◌∙◌, ◌++◌, ap, subst, sym, take}
+use Rattle.std.proofs.Common.{rules, ◌∙◌, ◌≤◌, ◌++◌, ap, arith, length, subst, sym, take}
+use Rattle.std.proofs.lemmas.List.{length-take-le}
 use Rattle.run_following.specs.Internal.Endings.{IsEnding}
 use Rattle.run_following.specs.Internal.Streams.{StopsAfter}
 use Rattle.run_following.proofs.EndingFacts.{before_first, followed_more, followed_to_end, line_ends, taken_more}
@@ -15,6 +16,7 @@ returns-then-count-eq0-clause-ending g c =
 pub returns-then-count-eq0-clause-taken : goal.returns-then-count-eq0-clause-taken
 returns-then-count-eq0-clause-taken g c =
     taken_more c.args.options _ _ (g.R.Read.remaining c.read_some.new.reader) c.loop.stream (take c.in_ok-count.count c.read_some.new.chunk) c.loop.invariant c.in_ok-count.ensures.taken
+    (let few : length c.read_some.new.chunk ≤ 65536 = search rules in omega (arith, few, c.in_ok-count.ensures.within, length-take-le c.in_ok-count.count c.read_some.new.chunk c.in_ok-count.ensures.within))
 
 pub returns-in-Some-clause-ending : goal.returns-in-Some-clause-ending
 returns-in-Some-clause-ending g c =
@@ -26,6 +28,7 @@ returns-in-Some-clause-ending g c =
 pub returns-in-Some-clause-taken : goal.returns-in-Some-clause-taken
 returns-in-Some-clause-taken g c =
     taken_more c.args.options _ _ (g.R.Read.remaining c.read_some.new.reader) c.loop.stream (take c.in_ok-count.count c.read_some.new.chunk) c.loop.invariant c.in_ok-count.ensures.taken
+    (let few : length c.read_some.new.chunk ≤ 65536 = search rules in omega (arith, few, c.in_ok-count.ensures.within, length-take-le c.in_ok-count.count c.read_some.new.chunk c.in_ok-count.ensures.within))
 
 pub loop-preserved : goal.loop-preserved
 loop-preserved g c =

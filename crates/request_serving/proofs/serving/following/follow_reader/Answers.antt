@@ -1,4 +1,5 @@
-use Rattle.std.proofs.Common.{IfErr, IfOk, subst, sym}
+use Rattle.std.proofs.Common.{◌++◌, IfErr, IfOk, subst, sym}
+use Rattle.std.proofs.lemmas.Result.{IfOk-weaker}
 use Rattle.request_options.specs.declared.following.RunFormat.{RunFormat}
 use Rattle.run_following.specs.Reports.{IsRunReportOfReader}
 use Rattle.request_serving.specs.Presentations.{run_refused_in, run_rendered_in}
@@ -28,3 +29,9 @@ returns-in-Json-clause-fault g c =
     let options = c.args.options in
     let said = λ (form : RunFormat). IsRunReportOfReader (run_rendered_in form options.is_explained) (run_refused_in form) options (g.R.Read.remaining c.args.reader.now) in
     subst (λ form. IfErr c.follow_run-in-Json.result (LeavesAtFault (said form) (g.W.Write.contents c.args.writer.now) (g.W.Write.contents c.follow_run-in-Json.new.writer))) (sym c.in-Json.is) c.follow_run-in-Json.ensures.left
+
+pub returns-in-Words-clause-taken : goal.returns-in-Words-clause-taken
+returns-in-Words-clause-taken g c = IfOk-weaker c.follow_run.result _ _ (λ answer taken. (taken.0 ++ taken.1, taken.2)) c.follow_run.ensures.taken
+
+pub returns-in-Json-clause-taken : goal.returns-in-Json-clause-taken
+returns-in-Json-clause-taken g c = IfOk-weaker c.follow_run-in-Json.result _ _ (λ answer taken. (taken.0 ++ taken.1, taken.2)) c.follow_run-in-Json.ensures.taken
