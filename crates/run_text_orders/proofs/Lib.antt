@@ -1,3 +1,4 @@
+mod Numbered
 mod Readings
 mod Accounts
 mod Texts

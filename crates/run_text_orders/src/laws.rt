@@ -9,7 +9,7 @@ ghost use Rattle.request_options.specs.declared.logs.LogOptions.{LogOptions};
 ghost use Rattle.request_options.specs.declared.following.FollowOptions.{FollowOptions};
 ghost use Rattle.run_following.specs.Accounts.{Account};
 ghost use Rattle.run_following.specs.Reports.{IsRunReport, RendersRun};
-ghost use Rattle.run_following.specs.Runs.{SpellsRun};
+ghost use Rattle.run_following.specs.Runs.{IsOfLines, SpellsRun};
 ghost use Rattle.log_reports.specs.LogReports.{IsLogReport, RendersLog};
 ghost use Rattle.log_text.specs.LogTexts.{SpellsLog};
 ghost use Rattle.log_text.specs.LogValues.{NumberedLog, log_operations};
@@ -29,4 +29,9 @@ pub fn runs_that_hold_are_never_violations()
     ensures { (renders : RendersRun) (refused : RendersRefusal) (options : FollowOptions) (bytes text : List ℕ) (answer : Answer) (log_renders : RendersLog)
         (log_refused : RendersRefusal) (log_options : LogOptions) (log_report : List ℕ) → IsRunReport renders refused options bytes text answer →
         answer ≢ Violation → answer ≢ Refused → IsLogReport log_renders log_refused log_options bytes log_report Violation → ⊥ }
+{}
+
+/// A text has one report as a run. Two accounts of the same lines are one.
+pub fn texts_have_one_report()
+    ensures { (a b : Account) → IsOfLines a → IsOfLines b → a.texts ≡ b.texts → a ≡ b }
 {}
