@@ -1,4 +1,5 @@
 mod Numbered
+mod Stops
 mod Readings
 mod Accounts
 mod Texts

@@ -7,9 +7,10 @@ ghost use Rattle.trace_reports.specs.declared.answers.Answer.{Answer};
 ghost use Rattle.trace_reports.specs.declared.answers.Answer.TheVariants.{Refused, Violation};
 ghost use Rattle.request_options.specs.declared.logs.LogOptions.{LogOptions};
 ghost use Rattle.request_options.specs.declared.following.FollowOptions.{FollowOptions};
+ghost use Rattle.tso_text.specs.declared.faults.Why.{Why};
 ghost use Rattle.run_following.specs.Accounts.{Account};
 ghost use Rattle.run_following.specs.Reports.{IsRunReport, RendersRun};
-ghost use Rattle.run_following.specs.Runs.{IsOfLines, SpellsRun};
+ghost use Rattle.run_following.specs.Runs.{IsFollowed, IsOfLines, IsRunRefusal, SpellsRun};
 ghost use Rattle.log_reports.specs.LogReports.{IsLogReport, RendersLog};
 ghost use Rattle.log_text.specs.LogTexts.{SpellsLog};
 ghost use Rattle.log_text.specs.LogValues.{NumberedLog, log_operations};
@@ -31,7 +32,12 @@ pub fn runs_that_hold_are_never_violations()
         answer ≢ Violation → answer ≢ Refused → IsLogReport log_renders log_refused log_options bytes log_report Violation → ⊥ }
 {}
 
-/// A text has one report as a run. Two accounts of the same lines are one.
+/// A text has one report as a run. Two accounts of the same lines are one; one account is followed of a text, or else it is refused, at one line for one fault.
 pub fn texts_have_one_report()
-    ensures { (a b : Account) → IsOfLines a → IsOfLines b → a.texts ≡ b.texts → a ≡ b }
+    ensures account { (a b : Account) → IsOfLines a → IsOfLines b → a.texts ≡ b.texts → a ≡ b }
+    ensures followed { (needs_end is_fast : Bool) (text : List ℕ) (a b : Account) → IsFollowed needs_end is_fast text a → IsFollowed needs_end is_fast text b → a ≡ b }
+    ensures never_both { (needs_end is_fast : Bool) (text : List ℕ) (account : Account) (line : ℕ) (why : Why) → IsFollowed needs_end is_fast text account →
+        IsRunRefusal needs_end is_fast text line why → ⊥ }
+    ensures refusal { (needs_end is_fast : Bool) (text : List ℕ) (line other_line : ℕ) (why other_why : Why) → IsRunRefusal needs_end is_fast text line why →
+        IsRunRefusal needs_end is_fast text other_line other_why → (line ≡ other_line) × (why ≡ other_why) }
 {}
