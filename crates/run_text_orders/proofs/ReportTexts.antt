@@ -9,6 +9,7 @@ use Rattle.trace_reports.specs.declared.answers.Answer.{Answer}
 use Rattle.run_following.specs.declared.facts.Fact.{Fact}
 use Rattle.run_following.specs.declared.facts.Fact.TheVariants.{Has, First, Store}
 use Rattle.run_following.specs.declared.facts.NamedLine.{NamedLine}
+use Rattle.run_following.specs.declared.facts.RefusalKind.{RefusalKind}
 use Rattle.run_following.specs.declared.facts.Standing.{Standing}
 use Rattle.run_following.specs.declared.facts.Standing.TheVariants as standing
 use Rattle.run_following.specs.declared.facts.ToldRefusal.{ToldRefusal}
@@ -73,8 +74,13 @@ standing_same line other standing.Before is = ap (λ t. codes "after\n" ++ t) (l
 phrase_same : (line other : NamedLine) (at : Standing) → named_value line ≡ named_value other → store_phrase line at ≡ store_phrase other at
 phrase_same line other standing.Named is = ap (λ (v : ℕ × List ℕ). codes " the store of line " ++ decimal v.0) is
 phrase_same line other standing.Waiting is = ap (λ (v : ℕ × List ℕ). codes "; the store of line " ++ decimal v.0 ++ codes " waits") is
-phrase_same line other (standing.Reached n) is = ap (λ (v : ℕ × List ℕ). codes "; the store of line " ++ decimal v.0 ++ codes " reached memory at line " ++ decimal n) is
+phrase_same line other (standing.Reached n) is =
+    ap (λ (v : ℕ × List ℕ). codes "; the store of line " ++ decimal v.0 ++ codes " reached memory at line " ++ decimal n) is
 phrase_same line other standing.Before is = ap (λ (v : ℕ × List ℕ). codes " must reach memory after that of line " ++ decimal v.0) is
+
+-- the sentence on a line of this number, with these phrases
+abbrev sentence_of : ℕ → RefusalKind → List ℕ → List ℕ
+sentence_of n kind phrases = reason_words n kind ++ phrases ++ codes "."
 
 -- what is told of two refusals is the same
 module _ (t u : ToldRefusal) (is : told_value t ≡ told_value u) where
@@ -92,25 +98,31 @@ module _ (t u : ToldRefusal) (is : told_value t ≡ told_value u) where
       ap (λ l. l ++ flat_map fact_words t.facts.items) (line_same t.line u.line lines_are)
       ∙ ap (λ fs. line_words u.line ++ fs) (flat_same fact_value fact_words (fact_same fact_words standing_same) t.facts.items u.facts.items facts_are)
 
+  phrases_same : flat_map fact_phrase t.facts.items ≡ flat_map fact_phrase u.facts.items
+  phrases_same = flat_same fact_value fact_phrase (fact_same fact_phrase phrase_same) t.facts.items u.facts.items facts_are
+
   sentence_same : sentence_words t ≡ sentence_words u
   sentence_same =
-      ap (λ (v : ℕ × List ℕ). reason_words v.0 t.kind ++ flat_map fact_phrase t.facts.items ++ codes ".") lines_are
-      ∙ ap (λ kind. reason_words u.line.number kind ++ flat_map fact_phrase t.facts.items ++ codes ".") kinds_are
-      ∙ ap (λ fs. reason_words u.line.number u.kind ++ fs ++ codes ".") (flat_same fact_value fact_phrase (fact_same fact_phrase phrase_same) t.facts.items u.facts.items facts_are)
+      ap (λ (v : ℕ × List ℕ). sentence_of v.0 t.kind (flat_map fact_phrase t.facts.items)) lines_are
+      ∙ ap (λ kind. sentence_of u.line.number kind (flat_map fact_phrase t.facts.items)) kinds_are
+      ∙ ap (sentence_of u.line.number u.kind) phrases_same
 
-refusal_same : (explained : Bool) (k : ℕ) (t u : ToldRefusal) → told_value t ≡ told_value u →
-    codes "refusal " ++ decimal k ++ codes " " ++ kind_word t.kind ++ codes "\n" ++ told_words t ++ explanation_words explained t
-    ≡ codes "refusal " ++ decimal k ++ codes " " ++ kind_word u.kind ++ codes "\n" ++ told_words u ++ explanation_words explained u
+-- a refusal of this number, with what is told of it and what explains it
+abbrev numbered_words : ℕ → RefusalKind → List ℕ → List ℕ → List ℕ
+numbered_words k kind told explanation = codes "refusal " ++ decimal k ++ codes " " ++ kind_word kind ++ codes "\n" ++ told ++ explanation
+
+abbrev refusal_words : Bool → ℕ → ToldRefusal → List ℕ
+refusal_words explained k t = numbered_words k t.kind (told_words t) (explanation_words explained t)
+
+refusal_same : (explained : Bool) (k : ℕ) (t u : ToldRefusal) → told_value t ≡ told_value u → refusal_words explained k t ≡ refusal_words explained k u
 refusal_same explained k t u is =
-    ap (λ kind. codes "refusal " ++ decimal k ++ codes " " ++ kind_word kind ++ codes "\n" ++ told_words t ++ explanation_words explained t) (kinds_are t u is)
-    ∙ ap (λ told. codes "refusal " ++ decimal k ++ codes " " ++ kind_word u.kind ++ codes "\n" ++ told ++ explanation_words explained t) (told_same t u is)
-    ∙ ap (λ s. codes "refusal " ++ decimal k ++ codes " " ++ kind_word u.kind ++ codes "\n" ++ told_words u ++ (if explained then s ++ codes "\n" else [])) (sentence_same t u is)
+    ap (λ kind. numbered_words k kind (told_words t) (explanation_words explained t)) (kinds_are t u is)
+    ∙ ap (λ told. numbered_words k u.kind told (explanation_words explained t)) (told_same t u is)
+    ∙ ap (λ s. numbered_words k u.kind (told_words u) (if explained then s ++ codes "\n" else [])) (sentence_same t u is)
 
 refusals_same : (explained : Bool) (xs ys : List ToldRefusal) → map told_value xs ≡ map told_value ys → refusals_words explained 1 xs ≡ refusals_words explained 1 ys
 refusals_same explained =
-    all_same told_value
-    (λ k t. codes "refusal " ++ decimal k ++ codes " " ++ kind_word t.kind ++ codes "\n" ++ told_words t ++ explanation_words explained t)
-    (refusals_words explained) (λ k. refl) (λ k x xs. refl) (refusal_same explained) 1
+    all_same told_value (refusal_words explained) (refusals_words explained) (λ k. refl) (λ k x xs. refl) (refusal_same explained) 1
 
 -- ---- as JSON
 
@@ -123,21 +135,27 @@ members_same line other is =
 object_same : (k : ℕ) (line other : NamedLine) (at : Standing) → named_value line ≡ named_value other → store_object k line at ≡ store_object k other at
 object_same k line other standing.Named is = ap (λ t. codes "{" ++ t ++ codes "}") (members_same line other is)
 object_same k line other standing.Waiting is = ap (λ t. separator k ++ codes "{" ++ t ++ codes ",\"waiting\":true}") (members_same line other is)
-object_same k line other (standing.Reached n) is = ap (λ t. separator k ++ codes "{" ++ t ++ codes ",\"reached\":" ++ decimal n ++ codes "}") (members_same line other is)
+object_same k line other (standing.Reached n) is =
+    ap (λ t. separator k ++ codes "{" ++ t ++ codes ",\"reached\":" ++ decimal n ++ codes "}") (members_same line other is)
 object_same k line other standing.Before is = ap (λ t. codes ",\"after\":{" ++ t ++ codes "}") (members_same line other is)
 
 facts_same : (xs ys : List Fact) → map fact_value xs ≡ map fact_value ys → facts_members 0 xs ≡ facts_members 0 ys
 facts_same = all_same fact_value fact_members facts_members (λ k. refl) (λ k x xs. refl) (λ k. fact_same (fact_members k) (object_same k)) 0
 
+-- the object of a refusal, with these members of its line and its facts, and what explains it
+abbrev object_of : ℕ → RefusalKind → List ℕ → List ℕ → List ℕ → List ℕ
+object_of k kind line facts explanation =
+    refusal_opening k kind ++ (line ++ (before_facts kind ++ facts ++ after_facts kind) ++ explanation) ++ codes "}"
+
 shown_same : (explained : Bool) (k : ℕ) (t u : ToldRefusal) → told_value t ≡ told_value u → refusal_object explained k t ≡ refusal_object explained k u
 unfolding refusal_object
 shown_same explained k t u is =
-    let explanation = explanation_member explained in
-    ap (λ l. refusal_opening k t.kind ++ (l ++ (before_facts t.kind ++ facts_members 0 t.facts.items ++ after_facts t.kind) ++ explanation t) ++ codes "}") (members_same t.line u.line (lines_are t u is))
-    ∙ ap (λ kind. refusal_opening k kind ++ (line_members u.line ++ (before_facts kind ++ facts_members 0 t.facts.items ++ after_facts kind) ++ explanation t) ++ codes "}") (kinds_are t u is)
-    ∙ ap (λ fs. refusal_opening k u.kind ++ (line_members u.line ++ (before_facts u.kind ++ fs ++ after_facts u.kind) ++ explanation t) ++ codes "}")
-    (facts_same t.facts.items u.facts.items (facts_are t u is))
-    ∙ ap (λ s. refusal_opening k u.kind ++ (line_members u.line ++ (before_facts u.kind ++ facts_members 0 u.facts.items ++ after_facts u.kind) ++ (if explained then codes ",\"explanation\":\"" ++ s ++ codes "\"" else [])) ++ codes "}")
+    let explanation = explanation_member explained t in
+    ap (λ line. object_of k t.kind line (facts_members 0 t.facts.items) explanation) (members_same t.line u.line (lines_are t u is))
+    ∙ ap (λ kind. object_of k kind (line_members u.line) (facts_members 0 t.facts.items) explanation) (kinds_are t u is)
+    ∙ ap (λ facts. object_of k u.kind (line_members u.line) facts explanation) (facts_same t.facts.items u.facts.items (facts_are t u is))
+    ∙ ap
+    (λ s. object_of k u.kind (line_members u.line) (facts_members 0 u.facts.items) (if explained then codes ",\"explanation\":\"" ++ s ++ codes "\"" else []))
     (sentence_same t u is)
 
 objects_same : (explained : Bool) (xs ys : List ToldRefusal) → map told_value xs ≡ map told_value ys → refusals_objects explained 1 xs ≡ refusals_objects explained 1 ys

@@ -1,4 +1,4 @@
-//! What the text of a run that holds says as a log, proved of all values.
+//! What the text of a run that holds says as a log, and that a text has one report as a run, proved of all values.
 
 ghost use Rattle.std.specs.Prelude.{◌≡◌, ◌≢◌, ℕ, Bool, List, []};
 ghost use Rattle.tso_model.specs.Axioms.{IsConsistent};
@@ -38,7 +38,8 @@ pub fn runs_that_hold_are_never_violations()
 /// So one text in words and one line of JSON report on it, with or without sentences, and the answer is one.
 pub fn texts_have_one_report()
     ensures account { (a b : Account) → IsOfLines a → IsOfLines b → a.texts ≡ b.texts → a ≡ b }
-    ensures followed { (needs_end is_fast : Bool) (text : List ℕ) (a b : Account) → IsFollowed needs_end is_fast text a → IsFollowed needs_end is_fast text b → a ≡ b }
+    ensures followed { (needs_end is_fast : Bool) (text : List ℕ) (a b : Account) → IsFollowed needs_end is_fast text a →
+        IsFollowed needs_end is_fast text b → a ≡ b }
     ensures never_both { (needs_end is_fast : Bool) (text : List ℕ) (account : Account) (line : ℕ) (why : Why) → IsFollowed needs_end is_fast text account →
         IsRunRefusal needs_end is_fast text line why → ⊥ }
     ensures refusal { (needs_end is_fast : Bool) (text : List ℕ) (line other_line : ℕ) (why other_why : Why) → IsRunRefusal needs_end is_fast text line why →
