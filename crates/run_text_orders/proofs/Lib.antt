@@ -1,3 +1,6 @@
+mod Numbered
+mod Stops
+mod ReportTexts
 mod Readings
 mod Accounts
 mod Texts
