@@ -17,10 +17,12 @@ use Rattle.log_text.specs.declared.logs.LogOperation.TheVariants.{Ld, St, Sw, Mb
 use Rattle.log_text.specs.LogTexts.{first_values, order_of}
 use Rattle.run_orders.specs.RunLogs.{AreNumberedAbove}
 
--- What processor p does to so many cells of a place of this width, from an address on, the lowest byte first: each has its byte of what is read and of what is stored.
+-- What processor p does to so many cells of a place of this width, from an address on, the lowest byte first: each has its byte of what is read and of
+-- what is stored.
 abbrev pub said_bytes : (ℕ → ℕ → ℕ → LogOperation) → ℕ → ℕ → ℕ → ℕ → ℕ → ℕ → List LogLine
 said_bytes operation p width a zero r v = []
-said_bytes operation p width a (suc count) r v = said.Issued p (operation a (low_part width r) (low_part width v)) ∷ said_bytes operation p width (a + 1) count (r / 256) (v / 256)
+said_bytes operation p width a (suc count) r v =
+    said.Issued p (operation a (low_part width r) (low_part width v)) ∷ said_bytes operation p width (a + 1) count (r / 256) (v / 256)
 
 -- a load, and a store, as an operation of a byte
 abbrev pub loaded : ℕ → ℕ → ℕ → LogOperation
@@ -43,7 +45,7 @@ byte_lines p Stbar = said.Issued p Sb ∷ []
 byte_lines p (Unknown place) = []
 byte_lines p (Last place v) = []
 
--- the line says something to the log, and not just of memory
+-- the line says something to a log: that a store reached memory, and what memory holds, don't
 abbrev pub is_said : LogLine → Bool
 is_said said.Note = false
 is_said said.Pso = false
