@@ -29,14 +29,14 @@ use Rattle.run_orders.proofs.Told.{Matched}
 -- ---- lists
 
 -- the parts of a list around an element
-record Parted {X : Type 0} (xs : List X) (k : ℕ) (y : X) : Type 0 where
-  older : List X
-  newer : List X
-  is : xs ≡ older ++ y ∷ newer
-  removed : remove xs k ≡ older ++ newer
-  taken : take k xs ≡ older
+pub record Parted {X : Type 0} (xs : List X) (k : ℕ) (y : X) : Type 0 where
+  pub older : List X
+  pub newer : List X
+  pub is : xs ≡ older ++ y ∷ newer
+  pub removed : remove xs k ≡ older ++ newer
+  pub taken : take k xs ≡ older
 
-parted_at : {X : Type 0} (xs : List X) (k : ℕ) (y : X) → slice_get xs k ≡ Some y → Parted xs k y
+pub parted_at : {X : Type 0} (xs : List X) (k : ℕ) (y : X) → slice_get xs k ≡ Some y → Parted xs k y
 parted_at [] k y read = absurd cc
 parted_at (x ∷ xs) zero y read = let same : x ≡ y = cc in record { older = []; newer = xs; is = ap (λ z. z ∷ xs) same; removed = refl; taken = refl }
 parted_at (x ∷ xs) (suc k) y read =
@@ -67,7 +67,7 @@ same_tags w x passes =
     let same : x.stbar ≡ w.stbar = eqb-true x.stbar w.stbar (not-false (x.stbar == w.stbar) (or_parts (overlaps x.place w.place) (not (x.stbar == w.stbar)) passes).1) in
     omega (arith, same)
 
-none_older : (w : WaitingStore) (older : List WaitingStore) → AllByRecursion (λ x. keeps_back Tso w x ≡ false) older → older ≡ []
+pub none_older : (w : WaitingStore) (older : List WaitingStore) → AllByRecursion (λ x. keeps_back Tso w x ≡ false) older → older ≡ []
 none_older w [] passes = refl
 none_older w (x ∷ older) passes = let both : true ≡ false = passes.0 in absurd cc
 

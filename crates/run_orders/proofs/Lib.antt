@@ -10,3 +10,7 @@ pub mod LastDrains
 pub mod Lines
 pub mod Logs
 pub mod Orders
+pub mod Bytes
+pub mod ByteSteps
+pub mod ByteRuns
+pub mod ByteOrders

@@ -21,6 +21,7 @@ use Rattle.unit_core.specs.declared.steps.Step.{Step}
 use Rattle.unit_core.specs.Machine.{lists_from, outcomes_of}
 use Rattle.embedding.specs.Sizes.{Sizes}
 use Rattle.run_orders.specs.RunLogs.{logged_line}
+use Rattle.run_orders.specs.ByteLogs.{is_said}
 use Rattle.run_orders.proofs.Told.{outcomes_told}
 use Rattle.run_orders.proofs.Lines.{Suits, told_to}
 
@@ -65,9 +66,9 @@ all_said unknown p number (line ∷ lines) =
     ∙ ap (λ os. os ++ logged_outcomes (without_addresses unknown rest)) (line_said unknown p number line)
     ∙ ap (λ os. said_in unknown p line ++ os) (all_said unknown p (suc number) lines)
 
--- ---- lines that are no steps
+-- ---- lines that say nothing to a log
 
-steps_said : (unknown : List ℕ) (p : ℕ) (lines : List LogLine) → flat_map (said_in unknown p) lines ≡ flat_map (said_in unknown p) (filter is_step lines)
+steps_said : (unknown : List ℕ) (p : ℕ) (lines : List LogLine) → flat_map (said_in unknown p) lines ≡ flat_map (said_in unknown p) (filter is_said lines)
 steps_said unknown p [] = refl
 steps_said unknown p (said.Note ∷ lines) = steps_said unknown p lines
 steps_said unknown p (said.Pso ∷ lines) = steps_said unknown p lines
@@ -80,25 +81,36 @@ steps_said unknown p (said.End ∷ lines) = steps_said unknown p lines
 none_more : (n : ℕ) → max 0 n ≡ n
 none_more n = omega arith
 
-pub processors_of_steps : (lines : List LogLine) → processors_in lines ≡ processors_in (filter is_step lines)
-processors_of_steps [] = refl
-processors_of_steps (said.Note ∷ lines) = none_more (processors_in lines) ∙ processors_of_steps lines
-processors_of_steps (said.Pso ∷ lines) = none_more (processors_in lines) ∙ processors_of_steps lines
-processors_of_steps (said.First a v ∷ lines) = none_more (processors_in lines) ∙ processors_of_steps lines
-processors_of_steps (said.Issued q x ∷ lines) = ap (max (suc q)) (processors_of_steps lines)
-processors_of_steps (said.Unknown q a ∷ lines) = ap (max (suc q)) (processors_of_steps lines)
-processors_of_steps (said.Memory ∷ lines) = ap (max 0) (processors_of_steps lines)
-processors_of_steps (said.End ∷ lines) = none_more (processors_in lines) ∙ processors_of_steps lines
+pub processors_of_said : (lines : List LogLine) → processors_in lines ≡ processors_in (filter is_said lines)
+processors_of_said [] = refl
+processors_of_said (said.Note ∷ lines) = none_more (processors_in lines) ∙ processors_of_said lines
+processors_of_said (said.Pso ∷ lines) = none_more (processors_in lines) ∙ processors_of_said lines
+processors_of_said (said.First a v ∷ lines) = none_more (processors_in lines) ∙ processors_of_said lines
+processors_of_said (said.Issued q x ∷ lines) = ap (max (suc q)) (processors_of_said lines)
+processors_of_said (said.Unknown q a ∷ lines) = ap (max (suc q)) (processors_of_said lines)
+processors_of_said (said.Memory ∷ lines) = none_more (processors_in lines) ∙ processors_of_said lines
+processors_of_said (said.End ∷ lines) = none_more (processors_in lines) ∙ processors_of_said lines
 
-pub unknown_of_steps : (lines : List LogLine) → flat_map unknown_in lines ≡ flat_map unknown_in (filter is_step lines)
-unknown_of_steps [] = refl
-unknown_of_steps (said.Note ∷ lines) = unknown_of_steps lines
-unknown_of_steps (said.Pso ∷ lines) = unknown_of_steps lines
-unknown_of_steps (said.First a v ∷ lines) = unknown_of_steps lines
-unknown_of_steps (said.Issued q x ∷ lines) = unknown_of_steps lines
-unknown_of_steps (said.Unknown q a ∷ lines) = ap (λ others. a ∷ others) (unknown_of_steps lines)
-unknown_of_steps (said.Memory ∷ lines) = unknown_of_steps lines
-unknown_of_steps (said.End ∷ lines) = unknown_of_steps lines
+pub unknown_of_said : (lines : List LogLine) → flat_map unknown_in lines ≡ flat_map unknown_in (filter is_said lines)
+unknown_of_said [] = refl
+unknown_of_said (said.Note ∷ lines) = unknown_of_said lines
+unknown_of_said (said.Pso ∷ lines) = unknown_of_said lines
+unknown_of_said (said.First a v ∷ lines) = unknown_of_said lines
+unknown_of_said (said.Issued q x ∷ lines) = unknown_of_said lines
+unknown_of_said (said.Unknown q a ∷ lines) = ap (λ others. a ∷ others) (unknown_of_said lines)
+unknown_of_said (said.Memory ∷ lines) = unknown_of_said lines
+unknown_of_said (said.End ∷ lines) = unknown_of_said lines
+
+-- what lines say is what those of them say that are steps
+pub said_of_steps : (lines : List LogLine) → filter is_said lines ≡ filter is_said (filter is_step lines)
+said_of_steps [] = refl
+said_of_steps (said.Note ∷ lines) = said_of_steps lines
+said_of_steps (said.Pso ∷ lines) = said_of_steps lines
+said_of_steps (said.First a v ∷ lines) = said_of_steps lines
+said_of_steps (said.Issued q x ∷ lines) = ap (λ others. said.Issued q x ∷ others) (said_of_steps lines)
+said_of_steps (said.Unknown q a ∷ lines) = ap (λ others. said.Unknown q a ∷ others) (said_of_steps lines)
+said_of_steps (said.Memory ∷ lines) = said_of_steps lines
+said_of_steps (said.End ∷ lines) = said_of_steps lines
 
 -- ---- the steps of a run
 
@@ -127,11 +139,11 @@ told_said unknown p (line ∷ lines) =
     ∙ ap (λ os. cond (p == line.processor) (outcomes_told unknown line.step) [] ++ os) (told_said unknown p lines)
 
 -- the log has of a processor what the run's lines say
-pub logged_told : (log_lines : List LogLine) (lines : List RunLine) (p : ℕ) → filter is_step log_lines ≡ map logged_line lines →
+pub logged_told : (log_lines : List LogLine) (lines : List RunLine) (p : ℕ) → filter is_said log_lines ≡ filter is_said (map logged_line lines) →
     logged_outcomes (issued_by log_lines p) ≡ told_to (flat_map unknown_in log_lines) p lines
-logged_told log_lines lines p steps =
+logged_told log_lines lines p same =
     let unknown = flat_map unknown_in log_lines in
-    all_said unknown p 1 log_lines ∙ steps_said unknown p log_lines ∙ ap (flat_map (said_in unknown p)) steps ∙ told_said unknown p lines
+    all_said unknown p 1 log_lines ∙ steps_said unknown p log_lines ∙ ap (flat_map (said_in unknown p)) same ∙ sym (steps_said unknown p (map logged_line lines)) ∙ told_said unknown p lines
 
 -- the lists of a log are those of a run that answers so
 pub lists_are : (log_lines : List LogLine) (steps : List Step) → ((p : ℕ) → outcomes_of p steps ≡ logged_outcomes (issued_by log_lines p)) → (count n : ℕ) →

@@ -1,12 +1,14 @@
 -- The log of a run that holds has an order.
-use Rattle.std.proofs.Common.{◌≡◌, ◌∙◌, sym, ap, refl, subst, ℕ, zero, suc, ◌+◌, ◌<◌, nat_eq, List, [], ◌∷◌, ◌++◌, length, get_or, flat_map, slice_index, append-nil, arith}
-use Rattle.std.specs.List.{list_any}
+use Rattle.std.proofs.Common.{◌≡◌, ◌∙◌, sym, ap, refl, subst, ℕ, zero, suc, ◌+◌, ◌<◌, nat_eq, List, [], ◌∷◌, ◌++◌, length, map, filter, get_or, flat_map, slice_index, append-nil, arith}
+use Rattle.std.specs.List.{AllByRecursion, list_any}
 use Rattle.std.proofs.lemmas.List.{length-replicate}
 use Rattle.std.proofs.lemmas.List.Elements.{filter_map-append}
 use Rattle.tso_ops.specs.Settings.{SettingValue, first_value, setting_of_first}
 use Rattle.tso_ops.specs.Values.{trace_of_lists}
 use Rattle.tso_model.specs.Axioms.{IsConsistent}
+use Rattle.run_steps.specs.declared.cells.Cell.TheVariants.{First}
 use Rattle.run_steps.specs.declared.steps.RunLine.{RunLine}
+use Rattle.run_steps.specs.Runs.{HoldsFrom}
 use Rattle.run_steps.specs.Machine.{ProcessorState, MachineState, idle, processor_in, waits_of}
 use Rattle.log_text.specs.declared.lines.LogLine.{LogLine}
 use Rattle.log_text.specs.LogTexts.{first_values, issued_by, log_of_lines, order_of, processors_in, unknown_in}
@@ -17,13 +19,14 @@ use Rattle.unit_core.proofs.RunFacts.{after-append}
 use Rattle.embedding.specs.Sizes.{Sizes, IsCompleteRunIn, first_state_in}
 use Rattle.embedding.specs.RunOrder.{memory_order_in}
 use Rattle.embedding.proofs.RunOrderFacts.{run_order_in, same_or}
-use Rattle.run_orders.specs.RunLogs.{IsHeldRun}
+use Rattle.run_orders.specs.RunLogs.{AreNumberedAbove, IsAtLocation, IsHeldRun, logged_line}
+use Rattle.run_orders.specs.ByteLogs.{is_said}
 use Rattle.run_orders.proofs.Waiting.{HasWord}
 use Rattle.run_orders.proofs.States.{tag_of}
 use Rattle.run_orders.proofs.Matching.{IsBuffer, Matches}
 use Rattle.run_orders.proofs.LastDrains.{Emptied, empty_all, run-append, run_within, silent_outcomes}
 use Rattle.run_orders.proofs.Lines.{RunMatched, run_matched}
-use Rattle.run_orders.proofs.Logs.{lines_suit, lists_are, logged_told, processors_of_steps, unknown_of_steps, words_for}
+use Rattle.run_orders.proofs.Logs.{lines_suit, lists_are, logged_told, processors_of_said, said_of_steps, unknown_of_said, words_for}
 
 -- ---- the first state
 
@@ -43,7 +46,16 @@ word_at f n (suc count) (suc a) small =
     let same : suc n + a ≡ n + suc a = omega arith in
     word_at f (suc n) count a (omega (arith, small)) ∙ ap f same
 
-module _ (log_lines : List LogLine) (s : MachineState) (lines : List RunLine) (held : IsHeldRun log_lines s lines) where
+-- A log says what the lines of a run at locations say, and the run holds from the log's first values.
+pub record IsToldRun (log_lines : List LogLine) (s : MachineState) (lines : List RunLine) : Type 0 where
+  pub said : filter is_said log_lines ≡ filter is_said (map logged_line lines)
+  pub locations : AllByRecursion (λ line. IsAtLocation line.step) lines
+  pub numbers : AreNumberedAbove 0 lines
+  pub memory : (a : ℕ) → s.memory a ≡ First (first_value (first_values log_lines) a)
+  pub processors : s.processors ≡ []
+  pub holds : HoldsFrom (order_of log_lines) s lines
+
+module _ (log_lines : List LogLine) (s : MachineState) (lines : List RunLine) (held : IsToldRun log_lines s lines) where
   abbrev z : Sizes
   z = record { buffers = processors_in log_lines; words = words_for lines }
 
@@ -95,8 +107,8 @@ module _ (log_lines : List LogLine) (s : MachineState) (lines : List RunLine) (h
   matched : RunMatched z unknown (order_of log_lines) start lines
   matched =
       run_matched z unknown (order_of log_lines) lines 0 s start first_match held.numbers held.locations
-      (lines_suit z unknown lines (omega (arith, processors_of_steps log_lines, ap processors_in held.steps)) (omega arith)
-      (λ a is. ap (list_any (nat_eq a)) (unknown_of_steps log_lines ∙ ap (flat_map unknown_in) held.steps) ∙ is)) held.holds
+      (lines_suit z unknown lines (omega (arith, processors_of_said log_lines, ap processors_in held.said, processors_of_said (map logged_line lines))) (omega arith)
+      (λ a is. ap (list_any (nat_eq a)) (unknown_of_said log_lines ∙ ap (flat_map unknown_in) held.said ∙ sym (unknown_of_said (map logged_line lines))) ∙ is)) held.holds
 
   emptied : Emptied z (order_of log_lines) (after start matched.steps) (λ q. Unit {0})
   emptied = empty_all z (order_of log_lines) (after start matched.steps) matched.sizes
@@ -119,9 +131,20 @@ module _ (log_lines : List LogLine) (s : MachineState) (lines : List RunLine) (h
   answers : (p : ℕ) → outcomes_of p steps ≡ logged_outcomes (issued_by log_lines p)
   answers p =
       filter_map-append (outcome_for p) matched.steps emptied.steps ∙ ap (λ os. outcomes_of p matched.steps ++ os) (silent_outcomes p emptied.steps emptied.silent)
-      ∙ append-nil (outcomes_of p matched.steps) ∙ matched.answers p ∙ sym (logged_told log_lines lines p held.steps)
+      ∙ append-nil (outcomes_of p matched.steps) ∙ matched.answers p ∙ sym (logged_told log_lines lines p held.said)
 
-  pub log_order : IsConsistent (log_operations (log_of_lines log_lines))
-  log_order =
+  pub told_order : IsConsistent (log_operations (log_of_lines log_lines))
+  told_order =
       subst (λ lists. IsConsistent (trace_of_lists setting lists)) (sym (lists_are log_lines steps answers z.buffers 0))
       (memory_order_in z z.buffers complete.memory steps, run_order_in z setting z.buffers steps complete)
+
+-- the same of a run whose lines are all in the log
+pub log_order : (log_lines : List LogLine) (s : MachineState) (lines : List RunLine) → IsHeldRun log_lines s lines → IsConsistent (log_operations (log_of_lines log_lines))
+log_order log_lines s lines held = told_order log_lines s lines (record {
+  said = said_of_steps log_lines ∙ ap (filter is_said) held.steps;
+  locations = held.locations;
+  numbers = held.numbers;
+  memory = held.memory;
+  processors = held.processors;
+  holds = held.holds;
+})
