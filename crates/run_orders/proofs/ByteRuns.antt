@@ -22,7 +22,7 @@ use Rattle.log_text.specs.declared.logs.LogOperation.{LogOperation}
 use Rattle.log_text.specs.declared.logs.LogOperation.TheVariants.{Sw}
 use Rattle.log_text.specs.LogLines.{step_told}
 use Rattle.run_orders.specs.RunLogs.{IsAtLocation, IsLocation}
-use Rattle.run_orders.specs.ByteLogs.{IsAtBytes, byte_lines, is_said, loaded, said_bytes, stored}
+use Rattle.run_orders.specs.ByteLogs.{IsAtBytes, byte_lines, is_said, byte_loaded, said_bytes, byte_stored}
 use Rattle.run_orders.proofs.Lists.{all-append, all-parts}
 use Rattle.run_orders.proofs.States.{IsSame, admitted_same, admitted_within, other_processor, own_processor, reaching_same, reserved_same, same_after, tag_of}
 use Rattle.run_orders.proofs.Drains.{none_older, parted_at}
@@ -63,9 +63,9 @@ steps_silent f p told width a (suc count) r v within =
     ∙ steps_silent f p told width (a + 1) count (r / 256) (v / 256) (next_within a count (2 ^ 64) within)
 
 -- a store says nothing of what is read
-stored_same : (p width a count r q v : ℕ) → said_bytes stored p width a count r v ≡ said_bytes stored p width a count q v
+stored_same : (p width a count r q v : ℕ) → said_bytes byte_stored p width a count r v ≡ said_bytes byte_stored p width a count q v
 stored_same p width a zero r q v = refl
-stored_same p width a (suc count) r q v = ap (λ lines. said.Issued p (stored a r (low_part width v)) ∷ lines) (stored_same p width (a + 1) count (r / 256) (q / 256) (v / 256))
+stored_same p width a (suc count) r q v = ap (λ lines. said.Issued p (byte_stored a r (low_part width v)) ∷ lines) (stored_same p width (a + 1) count (r / 256) (q / 256) (v / 256))
 
 -- ---- states
 
@@ -149,7 +149,7 @@ module _ (order : Order) (n p : ℕ) (s t : MachineState) (there : p < length s.
             (λ b. subst (λ c. IsSameCell c (led_split.to.memory b)) (sym (memory b)) (after.memory b)) same (λ q. (refl, refl));
         few = few_steps (λ place r x. Load place x) place v v;
         locations = steps_located (λ place r x. Load place x) (λ place r x at. at) place.width place.address (cell_count place) v v place.within;
-        said = steps_said (λ place r x. Load place x) loaded p (λ place r x. refl) place.width place.address (cell_count place) v v place.within;
+        said = steps_said (λ place r x. Load place x) byte_loaded p (λ place r x. refl) place.width place.address (cell_count place) v v place.within;
       }
 
   store : (place : Place) (v : ℕ) → 0 < place.width → SplitStep order p n (next_state n p (Store place v) s) t (Store place v)
@@ -173,7 +173,7 @@ module _ (order : Order) (n p : ℕ) (s t : MachineState) (there : p < length s.
             (subst (λ ws. AllByRecursion (λ w. 0 < w.place.width) ws) (sym waits_next) (all-append (λ w. 0 < w.place.width) (waits_of s p) (w ∷ []) (split.wide p) (wide, tt)));
         few = few_steps (λ place r x. Store place x) place v v;
         locations = steps_located (λ place r x. Store place x) (λ place r x at. at) place.width place.address (cell_count place) v v place.within;
-        said = steps_said (λ place r x. Store place x) stored p (λ place r x. refl) place.width place.address (cell_count place) v v place.within;
+        said = steps_said (λ place r x. Store place x) byte_stored p (λ place r x. refl) place.width place.address (cell_count place) v v place.within;
       }
 
   -- ---- stores that reach memory at once
@@ -212,7 +212,7 @@ module _ (order : Order) (n p : ℕ) (s t : MachineState) (there : p < length s.
         split = done.split;
         few = few_steps (λ place r x. Write place x) place r v;
         locations = steps_located (λ place r x. Write place x) (λ place r x at. at) place.width place.address (cell_count place) r v place.within;
-        said = steps_said (λ place r x. Write place x) stored p (λ place r x. refl) place.width place.address (cell_count place) r v place.within
+        said = steps_said (λ place r x. Write place x) byte_stored p (λ place r x. refl) place.width place.address (cell_count place) r v place.within
             ∙ stored_same p place.width place.address (cell_count place) r v v;
       }
     where

@@ -25,21 +25,21 @@ said_bytes operation p width a (suc count) r v =
     said.Issued p (operation a (low_part width r) (low_part width v)) ∷ said_bytes operation p width (a + 1) count (r / 256) (v / 256)
 
 -- a load, and a store, as an operation of a byte
-abbrev pub loaded : ℕ → ℕ → ℕ → LogOperation
-loaded a r v = Ld a v
+abbrev pub byte_loaded : ℕ → ℕ → ℕ → LogOperation
+byte_loaded a r v = Ld a v
 
-abbrev pub stored : ℕ → ℕ → ℕ → LogOperation
-stored a r v = St a v
+abbrev pub byte_stored : ℕ → ℕ → ℕ → LogOperation
+byte_stored a r v = St a v
 
 -- what a step says, byte by byte
 abbrev pub byte_lines : ℕ → RunStep → List LogLine
-byte_lines p (Load place v) = said_bytes loaded p place.width place.address (cell_count place) v v
-byte_lines p (Store place v) = said_bytes stored p place.width place.address (cell_count place) v v
+byte_lines p (Load place v) = said_bytes byte_loaded p place.width place.address (cell_count place) v v
+byte_lines p (Store place v) = said_bytes byte_stored p place.width place.address (cell_count place) v v
 byte_lines p (Drain at v) = []
-byte_lines p (Write place v) = said_bytes stored p place.width place.address (cell_count place) v v
+byte_lines p (Write place v) = said_bytes byte_stored p place.width place.address (cell_count place) v v
 byte_lines p (Swap place r v) = said_bytes Sw p place.width place.address (cell_count place) r v
-byte_lines p (Reserve place v) = said_bytes loaded p place.width place.address (cell_count place) v v
-byte_lines p (StoreReserved place v) = said_bytes stored p place.width place.address (cell_count place) v v
+byte_lines p (Reserve place v) = said_bytes byte_loaded p place.width place.address (cell_count place) v v
+byte_lines p (StoreReserved place v) = said_bytes byte_stored p place.width place.address (cell_count place) v v
 byte_lines p Membar = said.Issued p Mb ∷ []
 byte_lines p Stbar = said.Issued p Sb ∷ []
 byte_lines p (Unknown place) = []
