@@ -1,0 +1,3 @@
+pub mod Soundness
+pub mod SwapAddresses
+pub mod SwapSources
