@@ -50,7 +50,7 @@ Grouped-step keys lists items count n now new is low was pushes = record {
       ];
 }
 
-pub Grouped-end : {X : Type 0} (keys : List ℕ) (lists : List X) (items : X → List ℕ) (count n : ℕ) → Grouped keys lists items count n → n ≡ length keys → length keys < 2 ^ 16 →
+pub Grouped-end : {X : Type 0} (keys : List ℕ) (lists : List X) (items : X → List ℕ) (count n : ℕ) → Grouped keys lists items count n → n ≡ length keys → length keys < 2 ^ 32 →
     ((k : ℕ) → k < length keys → get_or keys k 0 < count) → AreGroups keys (map items lists)
 Grouped-end keys lists items count n is end small within = record {
   small = small;

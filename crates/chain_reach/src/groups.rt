@@ -9,9 +9,9 @@ use std::alloc::{AllocError, Global};
 
 impl Groups {
     /// The numbers below the length of `keys` in `count` groups, from 0: number n is in group `keys[n]`, which is below
-    /// `count`. There are fewer than 2^16 numbers. OutOfMemory where an allocation was refused.
-    pub fn of_keys(alloc: Global, keys: Vec<u16>, count: usize) -> Result<Groups, AllocError>
-        requires most { length keys.items < 2 ^ 16 }
+    /// `count`. There are fewer than 2^32 numbers. OutOfMemory where an allocation was refused.
+    pub fn of_keys(alloc: Global, keys: Vec<u32>, count: usize) -> Result<Groups, AllocError>
+        requires most { length keys.items < 2 ^ 32 }
         requires within { All (λ key. key < count) keys.items }
         ensures nodes { IfOk result (λ g. node_count g ≡ length keys.items) }
         ensures keys { IfOk result (λ g. (n : ℕ) → n < length keys.items → group_of g n ≡ slice_index keys.items n) }
@@ -19,7 +19,7 @@ impl Groups {
     {
         let mut lists = empty_lists(alloc, count)?;
         for n in 0..keys.len() {
-            lists[keys[n] as usize].push(n as u16)?;
+            lists[keys[n] as usize].push(n as u32)?;
         }
         Ok(Groups { keys, lists })
     }
@@ -28,7 +28,7 @@ impl Groups {
     #[inline]
     pub fn nodes(&self) -> usize
         ensures nodes { result ≡ node_count self.now }
-        ensures small { result < 2 ^ 16 }
+        ensures small { result < 2 ^ 32 }
     {
         self.keys.len()
     }
@@ -53,7 +53,7 @@ impl Groups {
 
     /// The numbers of group `d`, which is below `count`, ascending.
     #[inline]
-    pub fn list(&self, d: usize) -> &[u16]
+    pub fn list(&self, d: usize) -> &[u32]
         requires { d < count_of self.now }
         ensures { IsListOf result.now (IsIn self.now d) }
     {
@@ -88,7 +88,7 @@ impl Groups {
 }
 
 /// So many empty lists.
-fn empty_lists(alloc: Global, count: usize) -> Result<Vec<Vec<u16>>, AllocError>
+fn empty_lists(alloc: Global, count: usize) -> Result<Vec<Vec<u32>>, AllocError>
     ensures count { IfOk result (λ lists. length lists.items ≡ count) }
     ensures empty { IfOk result (λ lists. All (λ list. list.items ≡ []) lists.items) }
 {
@@ -100,7 +100,7 @@ fn empty_lists(alloc: Global, count: usize) -> Result<Vec<Vec<u16>>, AllocError>
 }
 
 /// The place of the first item of an ascending list that isn't less than `n`: the list's length where all are less.
-fn place_of(list: &[u16], n: usize) -> usize
+fn place_of(list: &[u32], n: usize) -> usize
     requires { IsAscending list.now }
     ensures { IsCut list.now (λ x. x < n) result }
 {

@@ -14,11 +14,11 @@ pub struct NewEdge<'a> {
     pub from_chain: usize,
     pub to: usize,
     pub to_chain: usize,
-    pub given: &'a [u16],
+    pub given: &'a [u32],
 }
 
 /// Lowers row `x` to what is given, where that is less.
-fn lower_row(first: &mut [u16], x: usize, given: &[u16])
+fn lower_row(first: &mut [u32], x: usize, given: &[u32])
     requires { x * length given.now + length given.now ≤ length first.old }
     ensures { LowersRows first.old first.new (length given.now) given.now (λ z. z ≡ x) }
 {
@@ -45,7 +45,7 @@ fn next_place(low: usize, high: usize, guess: usize, looks: usize) -> usize
 
 /// How many of the members of a chain, which are ascending, are the edge's first number or lead to it: none after the others.
 /// Where the guess is right it takes two looks, else it goes by halves.
-fn reaching(first: &[u16], members: &[u16], edge: NewEdge<'_>, guess: usize) -> usize
+fn reaching(first: &[u32], members: &[u32], edge: NewEdge<'_>, guess: usize) -> usize
     requires chain { edge.from_chain < length edge.given.now }
     requires rows { (k : ℕ) → k < length members.now → slice_index members.now k * length edge.given.now + length edge.given.now ≤ length first.now }
     requires first { (i j : ℕ) → i < j → j < length members.now →
@@ -73,9 +73,9 @@ fn reaching(first: &[u16], members: &[u16], edge: NewEdge<'_>, guess: usize) -> 
 /// Lowers and marks the rows of those in chain `d` that are the edge's first number or lead to it, but those that lead to its
 /// end: these have all that is given.
 fn lower_chain(
-    first: &mut [u16],
+    first: &mut [u32],
     grown: &mut [u64],
-    near: &mut [u16],
+    near: &mut [u32],
     chains: &Groups,
     d: usize,
     edge: NewEdge<'_>,
@@ -92,7 +92,7 @@ fn lower_chain(
     let members = chains.list(d);
     let place = edge.from_chain * edge.given.len() + d;
     let mut i = reaching(first, members, edge, near[place] as usize);
-    near[place] = i.min(u16::MAX as usize) as u16;
+    near[place] = i.min(u32::MAX as usize) as u32;
     while i > 0 {
         let x = members[i - 1] as usize;
         if first[x * edge.given.len() + edge.to_chain] as usize <= edge.to {
@@ -106,9 +106,9 @@ fn lower_chain(
 
 /// Lowers and marks the rows of all numbers that are the edge's first number or lead to it, but those that lead to its end.
 pub fn lower_chains(
-    first: &mut [u16],
+    first: &mut [u32],
     grown: &mut [u64],
-    near: &mut [u16],
+    near: &mut [u32],
     chains: &Groups,
     edge: NewEdge<'_>,
 )
@@ -126,15 +126,15 @@ pub fn lower_chains(
 }
 
 /// Writes what row `x` gives a number that leads to x: the row, with x itself.
-pub fn give_row(given: &mut [u16], first: &[u16], x: usize, chain: usize)
+pub fn give_row(given: &mut [u32], first: &[u32], x: usize, chain: usize)
     requires chain { chain < length given.old }
     requires row { x * length given.old + length given.old ≤ length first.now }
-    requires small { x < 2 ^ 16 }
+    requires small { x < 2 ^ 32 }
     ensures { IsGiven first.now (length given.old) x chain given.new }
 {
     let count = given.len();
     for d in 0..count {
         given[d] = first[x * count + d];
     }
-    given[chain] = given[chain].min(x as u16);
+    given[chain] = given[chain].min(x as u32);
 }

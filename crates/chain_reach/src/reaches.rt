@@ -20,9 +20,9 @@ impl Reach {
         let nodes = chains.nodes();
         let count = chains.count();
         // a product past usize is the greatest one, and no allocation is that large
-        let mut first = vec![in alloc; nodes as u16; nodes.saturating_mul(count)]?;
+        let mut first = vec![in alloc; nodes as u32; nodes.saturating_mul(count)]?;
         for x in 0..nodes {
-            first[x * count + chains.group(x)] = x as u16 + 1;
+            first[x * count + chains.group(x)] = x as u32 + 1;
         }
         let given = vec![in alloc; 0; count]?;
         let grown = vec![in alloc; 0; nodes.div_ceil(64)]?;

@@ -7,9 +7,9 @@ ghost use Rattle.chain_reach.specs.Internal.FirstTables.{KeepsReach};
 #[derive(Debug, Drop)]
 pub struct Groups {
     /// The group of each number.
-    pub(crate) keys: Vec<u16>,
+    pub(crate) keys: Vec<u32>,
     /// The numbers of each group, ascending.
-    pub(crate) lists: Vec<Vec<u16>>,
+    pub(crate) lists: Vec<Vec<u32>>,
     ghost grouped: { AreGroups keys.items (map (λ list. list.items) lists.items) },
 }
 
@@ -23,14 +23,14 @@ pub struct Reach {
     pub(crate) chains: Groups,
     /// A row for each number, which has for each chain a number: the row's number leads to those of the chain from there on,
     /// and to no others of it.
-    pub(crate) first: Vec<u16>,
+    pub(crate) first: Vec<u32>,
     /// A row to work in: what `join` gives those that lead to the edge's start.
-    pub(crate) given: Vec<u16>,
+    pub(crate) given: Vec<u32>,
     /// A bit for each number: whether it has come to lead to more since this was made or last settled.
     pub(crate) grown: Vec<u64>,
     /// For each two chains c and d, at c * count + d, where the last search in d for those that lead to a number of c ended:
     /// the next one begins there. It is only a guess, which no answer depends on.
-    pub(crate) near: Vec<u16>,
+    pub(crate) near: Vec<u32>,
     ghost near_sized: { length near.items ≡ length chains.lists.items * length chains.lists.items },
     ghost kept: { KeepsReach chains.keys.items (length chains.lists.items) first.items given.items grown.items },
 }

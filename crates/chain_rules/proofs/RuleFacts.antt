@@ -1,11 +1,12 @@
 -- What the rules give over chains: each lowers the least numbers to it.
-use Rattle.std.proofs.Common.{◌≡◌, ◌⊎◌, ◌↔◌, inl, inr, ℕ, zero, suc, ◌+◌, ◌*◌, ◌<◌, ◌≤◌, min, List, length, get_or, map, refl, sym, subst, ap, ◌∙◌, arith}
+use Rattle.std.proofs.Common.{◌≡◌, ◌⊎◌, ◌↔◌, inl, inr, ℕ, zero, suc, ◌+◌, ◌*◌, ◌<◌, ◌≤◌, ◌^◌, min, List, length, get_or, map, refl, sym, subst, ap, ◌∙◌, arith}
 use Rattle.std.proofs.lemmas.Bool.{cases_eq}
 use Rattle.std.proofs.lemmas.List.{length-map}
 use Rattle.std.proofs.lemmas.Nat.{row_fits}
 use Rattle.tso_ops.specs.Values.{TraceValue}
 use Rattle.tso_ops.specs.declared.events.Event.{Event}
 use Rattle.tso_ops.specs.Events.{processor_count, event_total, HasSource, IsLoad, IsLoadAt, IsStore, IsStoreTo, IsSwapLoad, IsEventOf, SameAddress, Earlier}
+use Rattle.tso_ops.proofs.EventFacts.{event_total-most}
 use Rattle.tso_ops.proofs.NumberFacts.{event_unique, IsEvent-within, IsStore-within, HasSource-within}
 use Rattle.tso_ops.proofs.SwapFacts.{IsSwapLoad-store, IsSwapLoad-within, IsSwapLoad-processor}
 use Rattle.tso_ops.proofs.TableFacts.{source_load, one_source}
@@ -38,6 +39,11 @@ group_within g n low =
 -- the numbers of events and the writer of the first values are those of the chains
 pub ready_within : (t : TraceValue) (tables : RuleTables) (r : Reach) (n : ℕ) → AreReady t tables r → n < suc (event_total t) → n < node_count r.chains
 ready_within t tables r n ready low = (let nodes = ready.chains.nodes in omega (arith, nodes, low))
+
+-- the numbers of the chains fit 16 bits
+pub ready_small : (t : TraceValue) (tables : RuleTables) (r : Reach) (n : ℕ) → AreReady t tables r → n < node_count r.chains → n < 2 ^ 16
+ready_small t tables r n ready within =
+    let nodes = ready.chains.nodes in let most = event_total-most t ready.trace in omega (arith, nodes, most, within)
 
 -- ---- LoadPast
 

@@ -81,7 +81,7 @@ pub fn chains_of(alloc: Global, trace: &Trace) -> Result<Groups, OutOfMemory>
             Some(event) => layout.chain(event),
             None => 0,
         };
-        keys.push(chain as u16)?;
+        keys.push(chain as u32)?;
     }
     Ok(Groups::of_keys(alloc, keys, layout.count())?)
 }

@@ -10,7 +10,7 @@ use tso_ops::Trace;
 ///
 /// The numbers of the list that are greater are of the store's processor, and where one comes after the store, so do those
 /// that stand after it.
-pub fn first_ordered(trace: &Trace, list: &[u16], u: usize) -> Option<usize>
+pub fn first_ordered(trace: &Trace, list: &[u32], u: usize) -> Option<usize>
     requires store { IsStore trace.now u }
     requires processor { (k : ℕ) → k < length list.now → u < slice_index list.now k → Earlier trace.now u (slice_index list.now k) }
     requires rising { (i j : ℕ) → i < j → j < length list.now → IsLater trace.now u (slice_index list.now i) → IsLater trace.now u (slice_index list.now j) }

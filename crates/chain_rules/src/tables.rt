@@ -56,7 +56,7 @@ fn accesses(
     let mut keys = Vec::with_capacity(alloc, trace.node_count())?;
     for n in 0..trace.node_count() {
         let slot = access_slot(trace, addresses, loads, n).unwrap_or(others);
-        keys.push(slot as u16)?;
+        keys.push(slot as u32)?;
     }
     Ok(Groups::of_keys(alloc, keys, others + 1)?)
 }
@@ -83,7 +83,7 @@ fn swap_stores(alloc: Global, trace: &Trace, chains: &Groups) -> Result<Groups, 
     let mut keys = Vec::with_capacity(alloc, trace.node_count())?;
     for n in 0..trace.node_count() {
         let slot = swap_chain(trace, chains, n).unwrap_or(others);
-        keys.push(slot as u16)?;
+        keys.push(slot as u32)?;
     }
     Ok(Groups::of_keys(alloc, keys, others + 1)?)
 }

@@ -10,7 +10,7 @@ pub record IsGroup (keys list : List ℕ) (d : ℕ) : Type 0 where
 
 -- The lists have the numbers by their groups.
 pub record AreGroups (keys : List ℕ) (lists : List (List ℕ)) : Type 0 where
-  pub small : length keys < 2 ^ 16
+  pub small : length keys < 2 ^ 32
   pub within : (n : ℕ) → n < length keys → slice_index keys n < length lists
   pub each : (d : ℕ) → d < length lists → IsGroup keys (get_or lists d []) d
 

@@ -1,6 +1,7 @@
-use Rattle.std.proofs.Common.{◌≡◌, ◌∙◌, length, replicate, sym, subst, ap}
+use Rattle.std.proofs.Common.{◌≡◌, ◌∙◌, length, replicate, sym, subst, ap, arith}
 use Rattle.std.proofs.lemmas.Result.{IfOk-weaker}
 use Rattle.std.proofs.lemmas.Option.{none-some}
+use Rattle.tso_ops.proofs.EventFacts.{event_total-most}
 use Rattle.tso_ops.proofs.NumberFacts.{IsEvent-within}
 use Rattle.chain_reach.specs.declared.types.Groups.{Groups}
 use Rattle.chain_reach.specs.Groups.{count_of}
@@ -14,6 +15,11 @@ use Rattle.chain_rules.proofs.rows.least_row.Goals as goal
 pub returns-in_default : goal.returns-in_default
 returns-in_default c =
     subst (λ xs. IsLeastRow c.args.input.trace.now c.args.input.reach.now c.args.u xs) (sym c.new.ensures.items) (LeastRow-none c.args.input.trace.now c.args.input.reach.now c.args.u (λ event. none-some event.0 (c.in_default.ensures ∙ event.1)))
+
+pub overflow_cast-nodes : goal.overflow_cast-nodes
+overflow_cast-nodes c =
+    let most = event_total-most c.args.input.trace.now c.node_count-nodes.ensures.kept in
+    omega (arith, most, c.node_count-nodes.ensures.count)
 
 pub new_numbers-requires-clause-number : goal.new_numbers-requires-clause-number
 new_numbers-requires-clause-number c =

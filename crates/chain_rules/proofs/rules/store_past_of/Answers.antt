@@ -3,7 +3,7 @@ use Rattle.chain_reach.specs.declared.types.Groups.{Groups}
 use Rattle.chain_reach.specs.Groups.{node_count, group_of}
 use Rattle.chain_rules.specs.Internal.Lowering.{LowersAt}
 use Rattle.chain_rules.proofs.ListedFacts.{listed_none, listed_first}
-use Rattle.chain_rules.proofs.RuleFacts.{leads_from, stores_fit, ends_within, store_past_empty, store_past_none, store_past_known, store_past_lowers}
+use Rattle.chain_rules.proofs.RuleFacts.{ready_small, leads_from, stores_fit, ends_within, store_past_empty, store_past_none, store_past_known, store_past_lowers}
 use Rattle.chain_rules.proofs.rules.store_past_of.Goals as goal
 
 pub list-requires : goal.list-requires
@@ -43,6 +43,12 @@ returns-then-from-first_led c =
 pub first_from-requires : goal.first_from-requires
 first_from-requires c = stores_fit c.args.input.trace.now c.args.input.tables.now c.args.input.reach.now c.args.u c.args.s c.args.p c.args.a c.slot-slot.result
     (record { ready = c.requires.ready; load = c.requires.load; source = c.requires.source; processor = c.requires.processor; at = c.slot-slot.ensures })
+
+pub lower-requires-clause-small : goal.lower-requires-clause-small
+lower-requires-clause-small c =
+    let within = ends_within c.args.input.trace.now c.args.input.tables.now c.args.input.reach.now c.args.u c.args.s c.args.p c.args.a c.slot-slot.result c.in-Some-first_from.v
+    (record { ready = c.requires.ready; load = c.requires.load; source = c.requires.source; processor = c.requires.processor; at = c.slot-slot.ensures }) c.in-Some-first_from.ensures.inside in
+    ready_small c.args.input.trace.now c.args.input.tables.now c.args.input.reach.now c.in-Some-first_from.v c.requires.ready within.0
 
 pub returns-in-Some-first_from : goal.returns-in-Some-first_from
 returns-in-Some-first_from c =

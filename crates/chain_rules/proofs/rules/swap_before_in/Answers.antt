@@ -3,7 +3,7 @@ use Rattle.tso_ops.proofs.NumberFacts.{IsStore-within}
 use Rattle.chain_reach.specs.declared.types.Groups.{Groups}
 use Rattle.chain_reach.specs.Groups.{node_count, group_of, IsFirstFrom}
 use Rattle.chain_rules.specs.Internal.Lowering.{LowersAt}
-use Rattle.chain_rules.proofs.RuleFacts.{ready_within, swap_store_within, swap_before_load, swap_before_none, swap_before_lowers}
+use Rattle.chain_rules.proofs.RuleFacts.{ready_within, ready_small, swap_store_within, swap_before_load, swap_before_none, swap_before_lowers}
 use Rattle.chain_rules.proofs.rules.swap_before_in.Goals as goal
 
 pub first_led-from-requires-clause-from : goal.first_led-from-requires-clause-from
@@ -21,6 +21,14 @@ group-requires c =
     let is = load.1 in
     let within : load.0 < node_count c.args.input.reach.now.chains = (swap_store_within c.args.input.trace.now c.args.input.tables.now c.args.input.reach.now load.0 c.requires.ready load.2).0 in
     subst (λ g. c.in-Some.w - 1 < node_count g) (sym c.chains.ensures.chains) (subst (λ n. n < node_count c.args.input.reach.now.chains) (omega (arith, is)) within)
+
+pub lower-requires-clause-small : goal.lower-requires-clause-small
+lower-requires-clause-small c =
+    let load = swap_before_load c.args.input.trace.now c.args.input.tables.now c.args.input.reach.now c.args.d c.first_led-from.result c.in-Some.w c.requires.ready c.requires.chain c.in-Some.ensures in
+    let is = load.1 in
+    let within : load.0 < node_count c.args.input.reach.now.chains = (swap_store_within c.args.input.trace.now c.args.input.tables.now c.args.input.reach.now load.0 c.requires.ready load.2).0 in
+    let small = ready_small c.args.input.trace.now c.args.input.tables.now c.args.input.reach.now load.0 c.requires.ready within in
+    omega (arith, is, small)
 
 pub returns-in-Some : goal.returns-in-Some
 returns-in-Some c =

@@ -1,6 +1,12 @@
-use Rattle.std.proofs.Common.{◌*◌, ap, ◌∙◌, replicate}
+use Rattle.std.proofs.Common.{◌*◌, ap, ◌∙◌, replicate, arith}
+use Rattle.tso_ops.proofs.EventFacts.{event_total-most}
 use Rattle.chain_rules.proofs.SourceFacts.{least_none}
 use Rattle.chain_rules.proofs.sources.least_sources.Goals as goal
+
+pub overflow_cast-nodes : goal.overflow_cast-nodes
+overflow_cast-nodes c =
+    let most = event_total-most c.args.trace.now c.node_count-nodes.ensures.kept in
+    omega (arith, most, c.node_count-nodes.ensures.count)
 
 pub loop-l-init : goal.loop-l-init
 loop-l-init c =
