@@ -1,12 +1,13 @@
 -- Soundness: in each order of the model what evidence says holds, so evidence that ends leaves no order.
-use Rattle.std.proofs.Common.{◌≡◌, ◌≢◌, ◌⊎◌, ℕ, zero, suc, ◌<◌, List, [], ◌∷◌, ◌++◌, inl, inr, refl, sym, ◌∙◌, ap, subst, append_assoc, arith}
-use Rattle.std.proofs.lemmas.List.{append-nil}
+use Rattle.std.proofs.Common.{◌≡◌, ◌≢◌, ◌⊎◌, ℕ, zero, suc, ◌<◌, ◌≤◌, List, [], ◌∷◌, ◌++◌, inl, inr, refl, sym, subst, length, take, arith}
+use Rattle.std.specs.Prelude.{get_or}
+use Rattle.std.proofs.Math.Seq.{take-suc, take-length}
+use Rattle.std.proofs.lemmas.Option.{slice_get-get_or}
 use Rattle.std.specs.List.{Contains}
 use Rattle.std.proofs.lemmas.List.Elements.{Contains-append_cases}
 use Rattle.tso_ops.specs.Values.{TraceValue}
 use Rattle.tso_ops.specs.Events.{IsEvent, IsLoad, IsStore, IsSwapLoad, HasSource, SameAddress, Earlier}
 use Rattle.tso_ops.proofs.NumberFacts.{event_above_zero, load_is_no_store, store_event, load_event}
-use Rattle.tso_ops.proofs.TableFacts.{source_load}
 use Rattle.order_paths.proofs.RisingNumbers.{Rises, rises_on_path}
 use Rattle.tso_model.specs.Axioms.{place, IsUpTo, IsBefore, IsVisible, IsModelOrder, IsConsistent}
 use Rattle.tso_model.proofs.EdgesForward.{SeesSource, nothing, greatest}
@@ -17,13 +18,18 @@ use Rattle.value_evidence.specs.declared.steps.ValueEnd.{ValueEnd}
 use Rattle.value_evidence.specs.declared.steps.ValueEnd.TheVariants.{NoSource, Cycle}
 use Rattle.value_evidence.specs.declared.steps.ValueEvidence.{ValueEvidence}
 use Rattle.value_evidence.specs.Candidates.{IsProgramPair, SaysBefore, IsPairBy, ComesBefore, SeesStore, IsGone, known, behind, over, taken, CanRead}
-use Rattle.value_evidence.specs.Evidence.{IsUpToBy, StepHolds, EndHolds, AllStepsHold, EvidenceHolds}
+use Rattle.value_evidence.specs.Evidence.{IsUpToBy, ValueStepHolds, EndHolds, AllStepsHold, EvidenceHolds}
 use Rattle.value_evidence.proofs.SwapSources.{strict, read_by, one_read, up_to_read, taken_once}
 
 -- what a list of one contains is that one
 contained_one : (x y : ValueStep) → Contains (x ∷ []) y → x ≡ y
 contained_one x y (zero, below, is) = is
 contained_one x y (suc k, below, is) = absurd (omega arith)
+
+-- of a list nothing comes before its first item
+take-zero : (steps : List ValueStep) → take 0 steps ≡ []
+take-zero [] = refl
+take-zero (x ∷ rest) = refl
 
 -- an empty list contains nothing
 none_contained : (x : ValueStep) → Contains [] x → ⊥
@@ -98,7 +104,7 @@ module _ (t : TraceValue) (order : List ℕ) (axioms : IsModelOrder t order) whe
     up_to_before u r v (inr path) before = let first = path_before u r path in omega arith
 
     -- In
-    in_before : (u l : ℕ) → StepHolds t steps (In u l) → IsBefore order u l
+    in_before : (u l : ℕ) → ValueStepHolds t steps (In u l) → IsBefore order u l
     in_before u l holds = by_cases read.2
       where
         read : (r : ℕ) × CanRead t steps l r × SeesSource t order l r
@@ -118,7 +124,7 @@ module _ (t : TraceValue) (order : List ℕ) (axioms : IsModelOrder t order) whe
         by_cases (greatest visible last) = by_seen visible.0 visible.2
 
     -- Out
-    out_before : (l v : ℕ) → StepHolds t steps (Out l v) → IsBefore order l v
+    out_before : (l v : ℕ) → ValueStepHolds t steps (Out l v) → IsBefore order l v
     out_before l v holds = by_order (before_or_up_to order l v (event_above_zero t l (load_event t l holds.0)) (event_above_zero t v (store_event t v holds.1)))
       where
         read : (r : ℕ) × CanRead t steps l r × SeesSource t order l r
@@ -136,7 +142,7 @@ module _ (t : TraceValue) (order : List ℕ) (axioms : IsModelOrder t order) whe
             by_cases (inr path) = before_not_up_to order read.0 v (event_above_zero t read.0 (store_event t read.0 seen.0.0)) (path_before read.0 v path) seen.1
 
     -- Over
-    over_before : (u v l : ℕ) → StepHolds t steps (Over u v l) → IsBefore order u v
+    over_before : (u v l : ℕ) → ValueStepHolds t steps (Over u v l) → IsBefore order u v
     over_before u v l holds = by_cases (holds.4 read.0 read.1)
       where
         read : (r : ℕ) × CanRead t steps l r × SeesSource t order l r
@@ -158,7 +164,7 @@ module _ (t : TraceValue) (order : List ℕ) (axioms : IsModelOrder t order) whe
                 absurd (before_not_up_to order read.0 v (event_above_zero t read.0 (store_event t read.0 seen.0.0)) after (omega (arith, back, seen.1)))
 
     -- no store stands between a swap's load and its store
-    swap_after : (m v : ℕ) → StepHolds t steps (SwapAfter m v) → IsBefore order (suc m) v
+    swap_after : (m v : ℕ) → ValueStepHolds t steps (SwapAfter m v) → IsBefore order (suc m) v
     swap_after m v holds = by_cases (axioms.atomicity m v holds.0 holds.1 holds.2)
       where
         before : IsBefore order m v
@@ -168,7 +174,7 @@ module _ (t : TraceValue) (order : List ℕ) (axioms : IsModelOrder t order) whe
         by_cases (inl up_to) = absurd (before_not_up_to order m v (event_above_zero t m (holds.0.0, holds.0.1)) before up_to)
         by_cases (inr up_to) = strict t order axioms (suc m) v (store_event t v holds.1) (λ same. holds.2 (sym same)) up_to
 
-    swap_before : (u m : ℕ) → StepHolds t steps (SwapBefore u m) → IsBefore order u m
+    swap_before : (u m : ℕ) → ValueStepHolds t steps (SwapBefore u m) → IsBefore order u m
     swap_before u m holds = by_cases (axioms.atomicity m u holds.0 holds.1 holds.2)
       where
         load : IsLoad t m
@@ -182,7 +188,7 @@ module _ (t : TraceValue) (order : List ℕ) (axioms : IsModelOrder t order) whe
         by_cases (inr up_to) = absurd (before_not_up_to order u (suc m) (event_above_zero t u (store_event t u holds.1)) before up_to)
 
     -- what a step says that holds stands so in the order
-    said_before : (step : ValueStep) → StepHolds t steps step → (u v : ℕ) → SaysBefore step u v → IsBefore order u v
+    said_before : (step : ValueStep) → ValueStepHolds t steps step → (u v : ℕ) → SaysBefore step u v → IsBefore order u v
     said_before (Read l s) holds u v said = absurd said
     said_before (In from l) holds u v (first, second) = subst (λ n. IsBefore order n v) first (subst (IsBefore order from) second (in_before from l holds))
     said_before (Out l to) holds u v (first, second) = subst (λ n. IsBefore order n v) first (subst (IsBefore order l) second (out_before l to holds))
@@ -191,16 +197,16 @@ module _ (t : TraceValue) (order : List ℕ) (axioms : IsModelOrder t order) whe
     said_before (SwapBefore from m) holds u v (first, second) = subst (λ n. IsBefore order n v) first (subst (IsBefore order from) second (swap_before from m holds))
 
     -- and so does a source
-    said_source : (step : ValueStep) → StepHolds t steps step → (l s : ℕ) → step ≡ Read l s → SeesSource t order l s
-    said_source step holds l s is = by_read (subst (StepHolds t steps) is holds)
+    said_source : (step : ValueStep) → ValueStepHolds t steps step → (l s : ℕ) → step ≡ Read l s → SeesSource t order l s
+    said_source step holds l s is = by_read (subst (ValueStepHolds t steps) is holds)
       where
-        by_read : StepHolds t steps (Read l s) → SeesSource t order l s
+        by_read : ValueStepHolds t steps (Read l s) → SeesSource t order l s
         by_read is_read =
-            let read = read_can l (source_load t l s is_read.0.0) in
+            let read = read_can l is_read.0 in
             subst (SeesSource t order l) (is_read.1 read.0 read.1) read.2
 
     -- the order keeps one step more
-    keeps_more : (step : ValueStep) → StepHolds t steps step → Keeps t order (steps ++ step ∷ [])
+    keeps_more : (step : ValueStep) → ValueStepHolds t steps step → Keeps t order (steps ++ step ∷ [])
     keeps_more step holds = record {
       pairs = λ other u v among said. pairs_of other u v said (Contains-append_cases steps (step ∷ []) other among);
       sources = λ l s among. sources_of l s (Contains-append_cases steps (step ∷ []) (Read l s) among);
@@ -220,10 +226,12 @@ module _ (t : TraceValue) (order : List ℕ) (axioms : IsModelOrder t order) whe
     no_end (Cycle u) holds = let before = path_before u u holds in omega arith
 
   -- it keeps all steps, where each follows from those before it
-  keeps_all : (steps before after : List ValueStep) → AllStepsHold t steps → steps ≡ before ++ after → Keeps t order before → Keeps t order steps
-  keeps_all steps before [] holds is keeps = subst (Keeps t order) (sym (is ∙ append-nil before)) keeps
-  keeps_all steps before (step ∷ after) holds is keeps =
-      keeps_all steps (before ++ step ∷ []) after holds (is ∙ sym (append_assoc before (step ∷ []) after)) (keeps_more before keeps step (holds before step after is))
+  keeps_all : (steps : List ValueStep) → AllStepsHold t steps → Keeps t order [] → (k : ℕ) → k ≤ length steps → Keeps t order (take k steps)
+  keeps_all steps holds none zero within = subst (Keeps t order) (sym (take-zero steps)) none
+  keeps_all steps holds none (suc k) within =
+      let step = get_or steps k (Read 0 0) in
+      subst (Keeps t order) (sym (take-suc steps k (Read 0 0) within))
+      (keeps_more (take k steps) (keeps_all steps holds none k (omega arith)) step (holds k step (slice_get-get_or steps k (Read 0 0) within)))
 
   -- no step says nothing
   keeps_none : Keeps t order []
@@ -235,4 +243,5 @@ no_order t evidence holds consistent =
     let order = consistent.0 in
     let axioms = consistent.1 in
     let steps = evidence.steps.items in
-    no_end t order axioms steps (keeps_all t order axioms steps [] steps holds.steps refl (keeps_none t order axioms)) evidence.end holds.ends
+    let keeps = keeps_all t order axioms steps holds.steps (keeps_none t order axioms) (length steps) (omega arith) in
+    no_end t order axioms steps (subst (Keeps t order) (take-length steps) keeps) evidence.end holds.ends
