@@ -1,0 +1,4 @@
+pub mod EventFacts
+pub mod KeyFacts
+pub mod PairFacts
+pub mod ReachFacts
