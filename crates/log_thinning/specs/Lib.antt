@@ -1,0 +1,2 @@
+pub mod IdleSwaps
+pub mod Thinned
