@@ -1,0 +1,108 @@
+-- Lemmas on events in cells.
+use Rattle.std.proofs.Common.{◌≡◌, ◌∙◌, ⊎_elim, sym, ap, subst, refl, ℕ, suc, ◌<◌, ◌≤◌, List, [], ◌∷◌, ◌++◌, length, Some, slice_index, map, arith}
+use Rattle.std.specs.Prelude.{get_or}
+use Rattle.std.specs.List.{All, Contains}
+use Rattle.std.proofs.lemmas.List.{get_or-map, get_or_append_left, get_or_default, length-append, length-map}
+use Rattle.std.proofs.Math.Seq.{get_or-append_seam}
+use Rattle.std.proofs.lemmas.Bool.{cases_lt}
+use Rattle.std.proofs.lemmas.List.Elements.{Contains-get_or}
+use Rattle.bitsets.specs.Rows.{IsListOf}
+use Rattle.chain_reach.specs.Groups.{count_of, group_of, IsIn}
+use Rattle.chain_reach.proofs.ListFacts.{ascending_at}
+use Rattle.tso_ops.specs.Values.{TraceValue}
+use Rattle.tso_ops.specs.declared.events.Event.{Event}
+use Rattle.tso_ops.specs.Events.{event_at, IsEvent, IsStore, HasSource}
+use Rattle.tso_ops.proofs.NumberFacts.{IsEvent-within, event_unique}
+use Rattle.value_check.specs.declared.cells.Cells.{Cells}
+use Rattle.value_check.specs.declared.known.Known.{Known}
+use Rattle.value_check.specs.Internal.Cells.{AreCells, class_in}
+use Rattle.value_check.specs.Internal.Chains.{event_in, no_event}
+use Rattle.value_check.specs.Internal.Events.{as_event}
+use Rattle.value_check.specs.Internal.Known.{AreTablesOf, value_key}
+use Rattle.value_check.specs.Internal.Numbering.{pair_at}
+use Rattle.value_check.specs.Internal.Settling.{AreInOrder}
+use Rattle.value_check.proofs.EventFacts.{event_read, chain_pair}
+
+-- one more item with what all have
+pub All-push : (P : ℕ → Type 0) (xs : List ℕ) (x : ℕ) → All P xs → P x → All P (xs ++ x ∷ [])
+All-push P xs x all here k d below =
+    ⊎_elim
+    (λ (before : k < length xs). subst P (sym (get_or_append_left xs (x ∷ []) d k before)) (all k d before))
+    (λ (from : length xs ≤ k).
+    let last : k ≡ length xs = omega (arith, from, below, length-append xs (x ∷ [])) in
+    subst P (sym (ap (λ n. get_or (xs ++ x ∷ []) n d) last ∙ get_or-append_seam xs x [] d)) here)
+    (cases_lt k (length xs))
+
+-- what a list contains stands at an index
+pub index_of : (list : List ℕ) (x : ℕ) → Contains list x → (i : ℕ) × (i < length list) × (slice_index list i ≡ x)
+index_of list x (i, below, is) = (i, below, get_or_default list i 0 x below ∙ is)
+
+module _ (t : TraceValue) (k : Known) (tables : AreTablesOf t k) where
+  -- the event of an index
+  pub event_here : (x : ℕ) → x < length k.events.items → event_at t (suc x) ≡ Some (as_event (event_in k.events.items x))
+  event_here x below = event_read t k.events.items tables.events x no_event below
+
+  pub event_of_index : (x : ℕ) → x < length k.events.items → IsEvent t (suc x)
+  event_of_index x below = (as_event (event_in k.events.items x), event_here x below)
+
+  -- an event's index is one of the table
+  pub index_below : (x : ℕ) → IsEvent t (suc x) → x < length k.events.items
+  index_below x event =
+      let within = IsEvent-within t (suc x) event in
+      omega (arith, within, ap length tables.events, length-map k.events.items as_event)
+
+  module _ (keys : List (ℕ × ℕ)) (c : Cells) (cells : AreCells keys tables.chains c) (whole : length keys ≡ length k.events.items) where
+    -- events of a cell are of one chain, and in program order
+    pub cell_in_order : (stores : List ℕ) (cell : ℕ) → IsListOf stores (IsIn c.cells cell) → AreInOrder t stores
+    cell_in_order stores cell list i j less within =
+        let x = slice_index stores i in
+        let y = slice_index stores j in
+        let in_x : IsIn c.cells cell x = list.only x (Contains-get_or stores i 0 (omega (arith, less, within))) in
+        let in_y : IsIn c.cells cell y = list.only y (Contains-get_or stores j 0 within) in
+        let below : y < length k.events.items = omega (arith, in_y.0, cells.events, whole) in
+        let first : x < y = ascending_at stores list.ascending i j less within in
+        let same = cells.one_chain x y (omega (arith, first, below, whole)) (omega (arith, below, whole)) (in_x.1 ∙ sym in_y.1) in
+        chain_pair t k.order k.events.items tables.chains tables.count tables.model tables.events tables.in_chains x y first below same
+
+    -- and all stores, or all loads
+    pub cell_of_stores : (cell x y : ℕ) → IsIn c.cells cell x → IsIn c.cells cell y → IsStore t (suc x) → IsStore t (suc y)
+    cell_of_stores cell x y in_x in_y store =
+        let below_x : x < length k.events.items = omega (arith, in_x.0, cells.events, whole) in
+        let below_y : y < length k.events.items = omega (arith, in_y.0, cells.events, whole) in
+        let same = cells.one_chain x y (omega (arith, below_x, whole)) (omega (arith, below_y, whole)) (in_x.1 ∙ sym in_y.1) in
+        let kind = tables.in_chains.one_kind x y below_x below_y same in
+        let one = event_unique t (suc x) (as_event (event_in k.events.items x)) store.0 (event_here x below_x) store.1 in
+        let load : (event_in k.events.items x).load ≡ store.0.load = ap (λ (e : Event). e.load) one in
+        (as_event (event_in k.events.items y), event_here y below_y, sym kind.1 ∙ load ∙ store.2)
+
+    -- events of one key lie in cells of one class
+    pub cell_of_key : (x y : ℕ) → x < length k.events.items → y < length k.events.items → pair_at keys x ≡ pair_at keys y →
+        IsIn c.classes (class_in c y) (group_of c.cells x) × (group_of c.cells x < count_of c.cells) × IsIn c.cells (group_of c.cells x) x
+    cell_of_key x y below_x below_y same =
+        let below : x < length keys = omega (arith, below_x, whole) in
+        let cell_below = cells.cell_below x below in
+        let one = cells.one_class x y below (omega (arith, below_y, whole)) same in
+        ((omega (arith, cell_below, cells.cells), cells.class_of_cell x below ∙ one), cell_below, (omega (arith, below, cells.events), refl))
+
+  -- the value keys are as many as the events
+  pub value_keys : length (map value_key k.events.items) ≡ length k.events.items
+  value_keys = length-map k.events.items value_key
+
+  -- a store that has the value of a load to its address has its key
+  pub source_key : (l x : ℕ) → l < length k.events.items → HasSource t (suc l) (suc x) → (x < length k.events.items) × (pair_at (map value_key k.events.items) x ≡ pair_at (map value_key k.events.items) l)
+  source_key l x below source =
+      let events = k.events.items in
+      let store = source.1 in
+      let address = source.2 in
+      let value = source.3 in
+      let below_x = index_below x (store.0, store.1) in
+      let at_x = event_here x below_x in
+      let at_l = event_here l below in
+      let ax = event_unique t (suc x) (as_event (event_in events x)) address.0 at_x address.2 in
+      let al = event_unique t (suc l) (as_event (event_in events l)) address.1 at_l address.3 in
+      let vx = event_unique t (suc x) (as_event (event_in events x)) value.0 at_x value.2 in
+      let vl = event_unique t (suc l) (as_event (event_in events l)) value.1 at_l value.3 in
+      let same_a : (event_in events x).a ≡ (event_in events l).a = ap (λ (e : Event). e.a) ax ∙ address.4 ∙ ap (λ (e : Event). e.a) (sym al) in
+      let same_v : (event_in events x).value ≡ (event_in events l).value = ap (λ (e : Event). e.value) vx ∙ value.4 ∙ ap (λ (e : Event). e.value) (sym vl) in
+      let pair : value_key (event_in events x) ≡ value_key (event_in events l) = λ i. (same_a i, same_v i) in
+      (below_x, get_or-map value_key events x no_event (0, 0) below_x ∙ pair ∙ sym (get_or-map value_key events l no_event (0, 0) below))

@@ -1,0 +1,6 @@
+use Rattle.std.proofs.Common.{sym, subst, IfOk}
+use Rattle.value_check.specs.Internal.Showing.{ShowsEnd}
+use Rattle.value_check.proofs.known.Known.ends.Goals as goal
+
+pub returns-in-NoSource : goal.returns-in-NoSource
+returns-in-NoSource c = subst (λ end. IfOk c.has_no_source.result (ShowsEnd c.args.self.now end)) (sym c.in-NoSource.is) c.has_no_source.ensures
