@@ -5,7 +5,7 @@ use crate::edges::Edges;
 use crate::graphs::Graph;
 use crate::groups::make_groups;
 use crate::lookups::{number_of, source_of};
-use crate::nodes::{FIRST, Kind, Node, node_at};
+use crate::nodes::{FIRST, Kind, Node, OPEN, node_at};
 use crate::numbers::{NONE, item, narrow, put};
 use crate::surveys::{Addresses, Survey};
 use log_selections::KnownLog;
@@ -30,6 +30,8 @@ pub(crate) struct Scope<'a> {
     pub(crate) known: &'a KnownLog,
     pub(crate) survey: &'a Survey,
     pub(crate) addresses: Addresses,
+    /// Whether loads of all sources are listed, as if none of these were known.
+    pub(crate) is_open: bool,
 }
 
 /// Lists the nodes of a log at some of its addresses, with their chains, groups and first edges.
@@ -52,7 +54,9 @@ pub(crate) fn build(memory: &Memory, scope: Scope<'_>) -> Graph {
         firsts: listing.firsts,
     };
     graph.add_membars(memory, &membars);
-    graph.add_own(memory);
+    if !scope.is_open {
+        graph.add_own(memory);
+    }
     graph.add_stbars(memory);
     graph
 }
@@ -69,7 +73,11 @@ fn list_nodes(memory: &Memory, scope: Scope<'_>) -> Listing {
         listing.push_list(memory, scope, processor, list);
     }
     listing.begin_list(memory);
-    listing.find_sources(scope.known);
+    if scope.is_open {
+        listing.forget_sources();
+    } else {
+        listing.find_sources(scope.known);
+    }
     listing.by_number = Vec::new(memory.alloc());
     listing
 }
@@ -133,10 +141,11 @@ impl Listing {
                 self.push(memory, number, node, Kind::Load);
             }
             LogOperation::St { .. } => self.push(memory, number, node, Kind::Store),
-            LogOperation::Sw { .. } if source_of(scope.known, number).is_some() => {
-                self.push(memory, number, node, Kind::SwapLoad);
-                self.push(memory, store, node, Kind::SwapStore);
-            }
+            LogOperation::Sw { .. } if scope.is_open || source_of(scope.known, number).is_some() =>
+                {
+                    self.push(memory, number, node, Kind::SwapLoad);
+                    self.push(memory, store, node, Kind::SwapStore);
+                }
             LogOperation::Sw { .. } => self.push(memory, store, node, Kind::LoneSwapStore),
             LogOperation::Ld { .. } | LogOperation::Mb | LogOperation::Sb => {}
         }
@@ -183,6 +192,13 @@ impl Listing {
             }
         }
         self.end_readers();
+    }
+
+    /// No load's source is known yet, and so no store's readers.
+    fn forget_sources(&mut self) {
+        for node in self.nodes.iter_mut() {
+            node.source = if node.is_load() { OPEN } else { NONE };
+        }
     }
 
     fn link(&mut self, load: u32, source: u32) {

@@ -4,6 +4,7 @@ ghost use Rattle.std.specs.Prelude.{◌≡◌};
 use crate::edges::Why;
 use crate::graphs::Graph;
 use crate::links::Links;
+use crate::notes::Notes;
 use crate::numbers::{NONE, item, narrow, put};
 use crate::queues::Queue;
 use crate::rows::Rows;
@@ -36,6 +37,8 @@ pub(crate) enum Closing {
     First { store: u32, load: u32 },
     /// The store is the load's processor's, before the load, which read the first value.
     OwnFirst { store: u32, load: u32 },
+    /// The load can have read nothing.
+    NoSource(u32),
 }
 
 /// The nodes that are done, with their rows, and what was found by them.
@@ -52,8 +55,10 @@ pub(crate) struct Derivation {
     changed: Vec<u32>,
     clock: u32,
     /// Nodes whose rows grew since their rules were looked at.
-    queue: Queue,
-    links: Links,
+    pub(crate) queue: Queue,
+    pub(crate) links: Links,
+    /// What was found, if it is noted: then all nodes are done, and what has the fewest nodes before it is looked at first.
+    pub(crate) notes: Notes,
     /// How many nodes were done since the rules were looked at.
     waiting: u32,
     pub(crate) work: Work,
@@ -126,6 +131,7 @@ impl Derivation {
             clock: 0,
             queue: Queue::new(memory, nodes),
             links: Links::new(memory.alloc()),
+            notes: Notes::new(memory.alloc()),
             waiting: 0,
             work,
             done: memory.room(nodes),
@@ -138,6 +144,17 @@ impl Derivation {
     /// Whether nothing more is looked for now: a violation was found, or work or memory came to its end.
     pub(crate) fn is_stopped(&self, memory: &Memory) -> bool {
         self.closing.is_some() || self.work.is_spent() || memory.is_refused()
+    }
+
+    /// Counts a look: its time.
+    pub(crate) fn tick(&mut self) -> u32 {
+        self.clock = self.clock.saturating_add(1);
+        self.clock
+    }
+
+    /// The last time that a node's row grew.
+    pub(crate) fn changed_at(&self, node: u32) -> u32 {
+        item(&self.changed, node)
     }
 
     /// How many operations are done: those whose first node is.
@@ -201,7 +218,7 @@ impl Derivation {
     }
 
     /// Notes that `u` and what reaches it reach `v`: whether something of it didn't.
-    fn take(&mut self, u: u32, v: u32) -> bool {
+    pub(crate) fn take(&mut self, u: u32, v: u32) -> bool {
         let width = self.rows.width();
         self.work.spend(width);
         let Some(node) = self.graph.node(u) else {
@@ -223,11 +240,12 @@ impl Derivation {
 
     /// Adds an edge to a node that is done, unless there is a path.
     pub(crate) fn infer(&mut self, memory: &Memory, u: u32, v: u32, why: Why) {
-        if self.reaches(u, v) {
+        if self.reaches(u, v) || self.notes.is_on() && self.closing.is_some() {
             return;
         }
         if self.graph.is_done(u) {
             self.graph.edges.add(memory, u, v, why, self.clock);
+            self.notes.add(memory, u, v, why);
             self.join(memory, u, v);
         } else if !self.graph.edges.has(u, v) {
             self.graph.edges.add(memory, u, v, why, self.clock);
@@ -240,8 +258,13 @@ impl Derivation {
         }
     }
 
-    fn queue(&mut self, memory: &Memory, number: u32) {
-        let rank = item(&self.graph.ranks, number);
+    /// Queues a node, if it isn't queued.
+    pub(crate) fn queue(&mut self, memory: &Memory, number: u32) {
+        let rank = if self.notes.is_on() {
+            self.rows.level(number)
+        } else {
+            item(&self.graph.ranks, number)
+        };
         self.queue.push(memory, rank, number);
     }
 

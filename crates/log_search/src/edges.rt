@@ -26,6 +26,12 @@ pub(crate) enum Why {
     SwapBefore(u32),
     /// The rule SwapAfter, for this load.
     SwapAfter(u32),
+    /// The first is the source of the second, which may be no reason for an edge.
+    Source,
+    /// The first comes before all that the second, this load, can have read.
+    AgreeIn(u32),
+    /// All that the first, this load, can have read comes before the second.
+    AgreeOut(u32),
 }
 
 impl Why {
@@ -36,8 +42,11 @@ impl Why {
             | Why::LoadPast(load)
             | Why::StorePast(load)
             | Why::SwapBefore(load)
-            | Why::SwapAfter(load) => Some(load),
-            Why::Chain | Why::LoadOp | Why::Stbar | Why::Membar(_) | Why::Read => None,
+            | Why::SwapAfter(load)
+            | Why::AgreeIn(load)
+            | Why::AgreeOut(load) => Some(load),
+            Why::Chain | Why::LoadOp | Why::Stbar | Why::Membar(_) | Why::Read | Why::Source =>
+                None,
         }
     }
 }

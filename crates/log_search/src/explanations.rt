@@ -37,6 +37,7 @@ pub(crate) fn explain(
         Closing::Node(node) => explanation.ask(memory, node, node, u32::MAX),
         Closing::First { store, load } => explanation.ask(memory, store, load, u32::MAX),
         Closing::OwnFirst { store, load } => explanation.add_nodes(memory, store, load),
+        Closing::NoSource(load) => explanation.add_node(memory, load),
     }
     for _ in 0..usize::MAX {
         let Some(task) = explanation.tasks.pop() else {
@@ -87,8 +88,10 @@ impl Explanation {
                 return self.add_stbar(memory, derivation, step.to);
             }
             Why::Membar(barrier) => memory.push(&mut self.barriers, (step.to, barrier)),
-            Why::Read => {}
-            Why::Own(load) => self.add_node(memory, load),
+            Why::Read | Why::Source => {}
+            Why::Own(load) | Why::AgreeIn(load) | Why::AgreeOut(load) => {
+                self.add_node(memory, load);
+            }
             Why::LoadPast(load) => self.add_premise(memory, load, step.from, load, step.number),
             Why::StorePast(load) => {
                 self.add_node(memory, load);

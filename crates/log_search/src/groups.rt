@@ -53,6 +53,28 @@ impl Groups {
         }
     }
 
+    /// The index of a group's first store that is past a place, and the index after its last store's.
+    pub(crate) fn after(&self, group: StoreGroup, place: u32) -> (u32, u32) {
+        let range = (group.start, group.end);
+        (
+            last_up_to(&self.places, range, group.near, place),
+            group.end,
+        )
+    }
+
+    /// The place of the store at an index.
+    #[inline]
+    pub(crate) fn place(&self, index: u32) -> u32 {
+        item(&self.places, index)
+    }
+
+    /// A load of an address read the first value too: the one before that did.
+    pub(crate) fn add_first_reader(&mut self, address: u32, load: u32) -> u32 {
+        let before = item(&self.first_readers, address);
+        put(&mut self.first_readers, address, load);
+        before
+    }
+
     /// The place of a group's first store.
     pub(crate) fn first_place(&self, group: StoreGroup) -> u32 {
         item(&self.places, group.start)

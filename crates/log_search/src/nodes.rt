@@ -7,6 +7,9 @@ use crate::numbers::NONE;
 /// In place of the source of a load: the first value.
 pub(crate) const FIRST: u32 = u32::MAX - 1;
 
+/// In place of the source of a load that isn't known yet, though the load is looked at.
+pub(crate) const OPEN: u32 = u32::MAX - 2;
+
 /// What a node is.
 #[derive(Clone, Copy, PartialEq, Eq)]
 pub(crate) enum Kind {
@@ -39,7 +42,7 @@ pub(crate) struct Node {
     pub(crate) chain: u32,
     /// Its place in the chain, from 1.
     pub(crate) place: u32,
-    /// Of a load the node of its source, `FIRST` or, where it is left out, `NONE`; of a store its first reader.
+    /// Of a load the node of its source, `FIRST`, `OPEN` or, where it is left out, `NONE`; of a store its first reader.
     pub(crate) source: u32,
     /// Of a load the next reader of its source; of a store the processor's store to its address before it.
     pub(crate) before: u32,
@@ -88,6 +91,11 @@ impl Node {
             self.kind,
             Kind::Store | Kind::SwapStore | Kind::LoneSwapStore
         )
+    }
+
+    /// Whether it is a load whose source isn't known yet.
+    pub(crate) fn is_open(&self) -> bool {
+        self.is_load() && self.source == OPEN
     }
 
     /// Whether it is a load with a source, which isn't left out.

@@ -82,8 +82,13 @@ fn key(cost: u32, node: u32) -> u64 {
 fn cost_of(why: Why) -> u32 {
     match why {
         Why::Chain => 0,
-        Why::LoadOp | Why::Stbar | Why::Membar(_) | Why::Read | Why::Own(_) => BASE,
-        Why::LoadPast(_) | Why::StorePast(_) | Why::SwapBefore(_) | Why::SwapAfter(_) => INFERRED,
+        Why::LoadOp | Why::Stbar | Why::Membar(_) | Why::Read | Why::Source | Why::Own(_) => BASE,
+        Why::LoadPast(_)
+        | Why::StorePast(_)
+        | Why::SwapBefore(_)
+        | Why::SwapAfter(_)
+        | Why::AgreeIn(_)
+        | Why::AgreeOut(_) => INFERRED,
     }
 }
 

@@ -42,6 +42,19 @@ impl Queue {
         Some(node)
     }
 
+    /// The rank of the node on top, if there is one.
+    pub(crate) fn first_rank(&self) -> Option<u32> {
+        match self.heap.peek() {
+            Some(top) => Some(u32::MAX - (*top >> 32) as u32),
+            None => None,
+        }
+    }
+
+    /// Whether a node is there.
+    pub(crate) fn has(&self, node: u32) -> bool {
+        self.is_queued.get(node as usize).copied().unwrap_or(false)
+    }
+
     /// Takes all nodes away.
     pub(crate) fn clear(&mut self) {
         self.heap.clear();

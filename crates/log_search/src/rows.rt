@@ -70,6 +70,25 @@ impl Rows {
         }
     }
 
+    /// How many nodes reach a node, as the sum of its places.
+    #[inline]
+    pub(crate) fn level(&self, node: u32) -> u32 {
+        let mut sum: u32 = 0;
+        for place in part(&self.places, self.start(node), self.width) {
+            sum = sum.saturating_add(*place);
+        }
+        sum
+    }
+
+    /// Lowers places to those that reach a node, which is the one of a place of a chain, or are that node.
+    pub(crate) fn lower(&self, places: &mut [u32], node: u32, chain: u32, place: u32) {
+        let row = part(&self.places, self.start(node), self.width);
+        for (index, (slot, reached)) in places.iter_mut().zip(row).enumerate() {
+            let own = if index == chain as usize { place } else { 0 };
+            *slot = (*slot).min((*reached).max(own));
+        }
+    }
+
     /// Nothing reaches the node.
     pub(crate) fn clear(&mut self, node: u32) {
         let start = self.start(node);

@@ -148,6 +148,7 @@ fn graph_at(memory: &Memory, known: &KnownLog, survey: &Survey, addresses: Addre
         known,
         survey,
         addresses,
+        is_open: false,
     };
     build(memory, scope)
 }

@@ -13,7 +13,7 @@ use tso_ops::Order;
 pub(crate) struct Survey {
     order: Order,
     addresses: Vec<u32>,
-    kept: Vec<bool>,
+    pub(crate) kept: Vec<bool>,
     count: usize,
     processors: usize,
     /// Under PSO for each address how many processors store there.
