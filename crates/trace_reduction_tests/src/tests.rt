@@ -1,4 +1,5 @@
-//! Reductions and what logs have, and explanations: what no text of a trace shows, and what shares libraries.
+//! Reductions and what logs have, and explanations: what no text of a trace shows, what searches by values find, and what shares libraries.
 
 mod explanations;
 mod reductions;
+mod values;

@@ -1,13 +1,16 @@
 //! Of the model and the independent checkers.
 
 use cert_check::{CertFault, check};
+use log_text::Log;
 use order_check::{OrderFault, check_order};
 use refutation_check::{RefutationFault, check_refutation};
 use std::alloc::{AllocError, Global};
 use tso_cert::{BaseRule, Certificate};
 use tso_evidence::LineList;
 use tso_model::conditions::first_base_rule;
-use tso_ops::Trace;
+use tso_ops::{OutOfMemory, Trace};
+use value_check::{ValueRefusal, check_values};
+use value_evidence::{ValueEnd, ValueEvidence, ValueStep};
 
 /// `tso_model`: the base rule that puts event 1 before event 2.
 pub fn rule_of_an_edge(trace: &Trace) -> Option<BaseRule> {
@@ -32,5 +35,22 @@ pub fn check_the_lines_of_a_refutation(
     lines: &LineList,
 ) -> Result<Result<(), RefutationFault>, AllocError> {
     let answer = check_refutation(alloc, trace, lines.items())?;
+    Ok(answer)
+}
+
+/// `value_evidence`: evidence that load 3 can have read nothing, after these steps.
+pub fn evidence_of_a_load(steps: Vec<ValueStep>) -> ValueEvidence {
+    let end = ValueEnd::NoSource(3);
+    let evidence = ValueEvidence { steps, end };
+    evidence
+}
+
+/// `value_check`: whether evidence shows that a log has no order of its memory model.
+pub fn check_evidence_of_a_log(
+    alloc: Global,
+    log: &Log,
+    evidence: ValueEvidence,
+) -> Result<Result<(), ValueRefusal>, OutOfMemory> {
+    let answer = check_values(alloc, log, &evidence)?;
     Ok(answer)
 }

@@ -6,10 +6,12 @@ ghost use Rattle.tso_ops.specs.Events.{IsUnwritten};
 use acyclic_traces::is_shown_acyclic;
 use chain_rules::{RoundCount, count_rounds};
 use final_states::{FinalState, StatesFault, final_states};
-use log_search::{Found, Search};
+use log_search::{Found, Search, ValueFound, ValueSearch};
 use log_selections::{Kept, KnownLog, Selected};
 use log_text::Log;
+use log_thinning::{Thinned, read_idle_swaps, thin};
 use order_graph::Graph;
+use program_chains::ProgramOrder;
 use progress_meters::NoMeter;
 use round_pool::{OpenPoolGate, PoolFault, Ranked, rounds};
 use search_memory::Memory;
@@ -89,4 +91,34 @@ pub fn search_a_log(alloc: Global, known: &KnownLog) -> Result<Found, AllocError
     let mut search = Search::new(alloc, known, 100)?;
     let found = search.next(alloc, &NoMeter)?;
     Ok(found)
+}
+
+/// `log_search`: why a log in which values repeat should have no order.
+pub fn search_a_log_by_values(alloc: Global, known: &KnownLog) -> Result<ValueFound, OutOfMemory> {
+    let mut values = ValueSearch::new(alloc, known, 100)?;
+    let violation = values.run(alloc, &NoMeter)?;
+    Ok(violation)
+}
+
+/// `log_thinning`: a log without loads that say no more than others.
+pub fn thin_a_log(alloc: Global, log: Log) -> Result<Thinned, OutOfMemory> {
+    let read = read_idle_swaps(alloc, log)?;
+    let thinned = thin(alloc, read)?;
+    Ok(thinned)
+}
+
+/// `program_chains`: whether the program of a log alone puts one event before another.
+pub fn order_of_a_program(
+    alloc: Global,
+    log: &Log,
+    x: usize,
+    y: usize,
+) -> Result<bool, OutOfMemory> {
+    let order = ProgramOrder::of_log(alloc, log)?;
+    let nodes = order.reach.chains().nodes();
+    if x >= nodes || y >= nodes {
+        return Ok(false);
+    }
+    let before = order.reach.leads(x, y);
+    Ok(before)
 }

@@ -1,6 +1,7 @@
-//! The checkers of certificates, of orders and of refutations: long texts, refused allocations, and what faults display.
+//! The checkers of certificates, of orders, of refutations and of evidence by values: long texts, refused allocations, and what faults display.
 //! `program-cases/` has short texts.
 
 mod faults;
 mod long;
 mod refused_allocations;
+mod values;

@@ -1,4 +1,4 @@
-//! Texts, the names of faults, the conditions of rules, and programs that lists and words make.
+//! Texts, the names of faults, the conditions of rules, programs that lists and words make, and what is left of logs.
 
 mod conditions;
 mod faults;
@@ -6,3 +6,4 @@ mod making;
 mod programs;
 mod reading;
 mod texts;
+mod thinning;
