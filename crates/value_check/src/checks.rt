@@ -4,8 +4,8 @@ ghost use Rattle.log_text.specs.LogValues.{log_operations, log_value};
 ghost use Rattle.tso_model.specs.Axioms.{IsConsistent};
 ghost use Rattle.value_evidence.specs.Evidence.{EvidenceHolds};
 
-use crate::refusals::ValueRefusal;
 use crate::known::Known;
+use crate::refusals::ValueRefusal;
 use log_text::Log;
 use std::alloc::Global;
 use tso_ops::OutOfMemory;
