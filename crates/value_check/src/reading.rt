@@ -20,12 +20,12 @@ impl Known {
         &self,
         alloc: Global,
         load: usize,
-        demand: Demand,
+        wanted: Demand,
     ) -> Result<bool, OutOfMemory>
-        ensures { IfOk result (ShowsAll self.now load demand) }
+        ensures { IfOk result (ShowsAll self.now load wanted) }
     {
         let seen = self.seen_stores(alloc, load)?;
-        let question = Question { load, demand, seen };
+        let question = Question { load, wanted, seen };
         if !self.is_first_settled(&question) {
             return Ok(false);
         }
@@ -40,7 +40,7 @@ impl Known {
     /// Whether the first value is as a step asks, or can't have been read.
     fn is_first_settled(&self, question: &Question) -> bool
         ensures { (t : TraceValue) (steps : List ValueStep) → IsKnownBy t steps self.now → AreSeen t steps question.now → IsTrue result →
-            question.now.load < length self.now.events.items → CanRead t steps (suc question.now.load) 0 → Meets t steps (suc question.now.load) question.now.demand 0 }
+            question.now.load < length self.now.events.items → CanRead t steps (suc question.now.load) 0 → Meets t steps (suc question.now.load) question.now.wanted 0 }
     {
         if question.seen.len() > 0 {
             return true;
@@ -54,7 +54,7 @@ impl Known {
         if self.read_another(question.load, None) {
             return true;
         }
-        match question.demand {
+        match question.wanted {
             Demand::Is(number) => number == 0,
             Demand::Before(_) => true,
             Demand::After(_) | Demand::UpTo(_) | Demand::Nothing => false,

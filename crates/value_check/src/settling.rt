@@ -27,7 +27,7 @@ pub(crate) enum Demand {
 #[derive(Drop)]
 pub(crate) struct Question {
     pub(crate) load: usize,
-    pub(crate) demand: Demand,
+    pub(crate) wanted: Demand,
     pub(crate) seen: Vec<usize>,
 }
 
@@ -49,12 +49,12 @@ impl Known {
     /// Whether a store is settled, and with it what is before it in program order.
     fn settles_before(&self, question: &Question, store: usize) -> bool
         ensures { (t : TraceValue) (steps : List ValueStep) → IsKnownBy t steps self.now → AreSeen t steps question.now → IsTrue result →
-            (r : ℕ) → (r ≡ suc store) ⊎ IsProgramPair t r (suc store) → IsSettled t steps (suc question.now.load) question.now.demand r }
+            (r : ℕ) → (r ≡ suc store) ⊎ IsProgramPair t r (suc store) → IsSettled t steps (suc question.now.load) question.now.wanted r }
     {
         if self.is_over(question, store) {
             return true;
         }
-        match question.demand {
+        match question.wanted {
             Demand::Before(to) | Demand::UpTo(to) => self.leads(store, to),
             Demand::Is(_) | Demand::After(_) | Demand::Nothing => false,
         }
@@ -63,7 +63,7 @@ impl Known {
     /// Whether a store is settled, and with it what is after it in program order.
     fn settles_after(&self, question: &Question, store: usize) -> bool
         ensures { (t : TraceValue) (steps : List ValueStep) → IsKnownBy t steps self.now → IsTrue result →
-            (r : ℕ) → (r ≡ suc store) ⊎ IsProgramPair t (suc store) r → IsSettled t steps (suc question.now.load) question.now.demand r }
+            (r : ℕ) → (r ≡ suc store) ⊎ IsProgramPair t (suc store) r → IsSettled t steps (suc question.now.load) question.now.wanted r }
     {
         if self.is_earlier(store, question.load) {
             return false;
@@ -71,7 +71,7 @@ impl Known {
         if self.leads(question.load, store) {
             return true;
         }
-        match question.demand {
+        match question.wanted {
             Demand::After(from) => self.leads(from, store),
             Demand::Is(_) | Demand::Before(_) | Demand::UpTo(_) | Demand::Nothing => false,
         }
@@ -80,9 +80,9 @@ impl Known {
     /// Whether a store itself is as the step asks.
     fn is_asked(&self, question: &Question, store: usize) -> bool
         ensures { (t : TraceValue) (steps : List ValueStep) → IsKnownBy t steps self.now → IsTrue result →
-            Meets t steps (suc question.now.load) question.now.demand (suc store) }
+            Meets t steps (suc question.now.load) question.now.wanted (suc store) }
     {
-        match question.demand {
+        match question.wanted {
             Demand::Is(number) => number.checked_sub(1) == Some(store),
             Demand::After(from) => from == store && !self.is_earlier(store, question.load),
             Demand::UpTo(to) => store == to,

@@ -21,7 +21,7 @@ Meets t steps l Nothing r = ⊥
 
 -- it does, or the load can't have read it
 abbrev pub IsSettled : TraceValue → List ValueStep → ℕ → Demand → ℕ → Type 0
-IsSettled t steps l demand r = IsGone t steps l r ⊎ Meets t steps l demand r
+IsSettled t steps l wanted r = IsGone t steps l r ⊎ Meets t steps l wanted r
 
 -- the load sees these stores
 abbrev pub SeesAll : TraceValue → List ValueStep → ℕ → List ℕ → Type 0
@@ -32,7 +32,7 @@ abbrev pub AreSeen : TraceValue → List ValueStep → Question → Type 0
 AreSeen t steps q = SeesAll t steps q.load q.seen.items
 
 abbrev pub Settles : TraceValue → List ValueStep → Question → ℕ → Type 0
-Settles t steps q x = IsSettled t steps (suc q.load) q.demand (suc x)
+Settles t steps q x = IsSettled t steps (suc q.load) q.wanted (suc x)
 
 -- each of these events is in program order before those after it
 abbrev pub AreInOrder : TraceValue → List ℕ → Type 0

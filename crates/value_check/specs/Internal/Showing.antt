@@ -12,9 +12,9 @@ use Rattle.value_check.specs.Internal.Settling.{Meets}
 
 -- each number that the load can have read is as asked
 abbrev pub ShowsAll : Known → ℕ → Demand → Bool → Type 0
-ShowsAll k load demand is =
+ShowsAll k load wanted is =
     (t : TraceValue) (steps : List ValueStep) → IsKnownBy t steps k → IsTrue is → load < length k.events.items → (r : ℕ) → CanRead t steps (suc load) r
-    → Meets t steps (suc load) demand r
+    → Meets t steps (suc load) wanted r
 
 -- the step follows from the steps before it
 abbrev pub ShowsStep : Known → ValueStep → Bool → Type 0

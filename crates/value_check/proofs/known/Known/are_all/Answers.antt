@@ -19,7 +19,7 @@ loop-cell-preserved c = λ t steps known seen k below within x among store.
 
 pub returns : goal.returns
 returns c = λ t steps known is below r can.
-    elim r as (λ r. CanRead t steps (suc c.args.load) r → Meets t steps (suc c.args.load) c.args.demand r) [
+    elim r as (λ r. CanRead t steps (suc c.args.load) r → Meets t steps (suc c.args.load) c.args.wanted r) [
       | zero ↦ λ can. c.is_first_settled.ensures t steps known (c.in_ok-seen.ensures t steps known) c.if-not-is_first_settled.false below can
       | suc x ↦ λ can.
           let k = c.args.self.now in
