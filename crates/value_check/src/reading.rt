@@ -40,7 +40,8 @@ impl Known {
     /// Whether the first value is as a step asks, or can't have been read.
     fn is_first_settled(&self, question: &Question) -> bool
         ensures { (t : TraceValue) (steps : List ValueStep) → IsKnownBy t steps self.now → AreSeen t steps question.now → IsTrue result →
-            question.now.load < length self.now.events.items → CanRead t steps (suc question.now.load) 0 → Meets t steps (suc question.now.load) question.now.wanted 0 }
+            question.now.load < length self.now.events.items → CanRead t steps (suc question.now.load) 0 →
+            Meets t steps (suc question.now.load) question.now.wanted 0 }
     {
         if question.seen.len() > 0 {
             return true;
