@@ -15,6 +15,7 @@ mod known;
 pub mod laws;
 mod lone_loads;
 mod naming;
+mod operations;
 mod selecting;
 mod shown;
 mod source_checks;

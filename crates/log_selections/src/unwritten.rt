@@ -7,7 +7,7 @@ ghost use Rattle.log_selections.specs.Shown.{IsLineOf};
 ghost use Rattle.log_selections.specs.Unwritten.{IsFirstStore, IsLastStore, IsUnwrittenLoad, logged_stores_to, read_by, stored_at};
 
 use crate::known::KnownLog;
-use crate::shown::{Shown, logged_at};
+use crate::shown::Shown;
 use crate::writers::find_first_values;
 use log_text::{LogOperation, LoggedOperation};
 use std::alloc::{AllocFailed, Global};
@@ -64,28 +64,23 @@ impl KnownLog {
         }))
     }
 
-    /// The operation whose first event has this number.
+    /// The load of this number.
     fn numbered(&self, number: usize) -> Option<Shown>
         ensures { IfSome result (IsLineOf self.now.lists) }
     {
-        for (processor, numbers) in self.numbers().iter().enumerate() {
-            // Barriers before the operation have its number too.
-            let next = numbers.partition_point(|n| *n <= number);
-            let Some(index) = next.checked_sub(1) else {
-                continue;
-            };
-            if numbers.get(index) == Some(&number)
-                && let Some(logged) = logged_at(&self.log().lists, processor, index)
-                && read_by(logged.operation).is_some()
-            {
-                return Some(Shown {
-                    processor,
-                    logged,
-                    part: Part::Whole,
-                });
-            }
+        let Shown {
+            processor,
+            logged,
+            part,
+        } = self.operation_of(number)?;
+        if part == Part::SwapStore {
+            return None;
         }
-        None
+        Some(Shown {
+            processor,
+            logged,
+            part: Part::Whole,
+        })
     }
 }
 

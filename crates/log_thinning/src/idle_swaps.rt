@@ -11,29 +11,47 @@ use tso_ops::{Order, OutOfMemory};
 
 /// The log, with each swap that stores what it read as a barrier and a load, both with the swap's line. Under PSO it stays as
 /// it is. OutOfMemory where an allocation was refused.
-pub fn read_idle_swaps(alloc: Global, log: Log) -> Result<Log, OutOfMemory>
-    ensures { IfOk result (λ read. log_value read ≡ with_idle_swaps_read (log_value log)) }
+pub fn read_idle_swaps(alloc: Global, log: &Log) -> Result<Log, OutOfMemory>
+    ensures { IfOk result (λ read. log_value read ≡ with_idle_swaps_read (log_value log.now)) }
 {
-    match log.order {
-        Order::Tso => read_lists(alloc, log),
-        Order::Pso => Ok(log),
-    }
-}
-
-/// The log under TSO, with the lists of its processors read.
-fn read_lists(alloc: Global, log: Log) -> Result<Log, OutOfMemory>
-    ensures { IfOk result (λ read. log_value read ≡ record (log_value log) { lists = map (flat_map read_of) (rows log.lists.items) }) }
-{
-    let mut lists = Vec::new(alloc);
-    for list in &log.lists {
-        lists.push(read_list(alloc, list)?)?;
-    }
+    let lists = match log.order {
+        Order::Tso => read_lists(alloc, &log.lists)?,
+        Order::Pso => copy_lists(alloc, &log.lists)?,
+    };
     Ok(Log {
         order: log.order,
-        first: log.first,
+        first: log.first.clone()?,
         lists,
         left_out: log.left_out,
     })
+}
+
+/// The operations of the processors as they are read under TSO.
+fn read_lists(
+    alloc: Global,
+    lists: &[Vec<LoggedOperation>],
+) -> Result<Vec<Vec<LoggedOperation>>, OutOfMemory>
+    ensures { IfOk result (λ read. rows read.items ≡ map (flat_map read_of) (rows lists.now)) }
+{
+    let mut read = Vec::with_capacity(alloc, lists.len())?;
+    for list in lists {
+        read.push(read_list(alloc, list)?)?;
+    }
+    Ok(read)
+}
+
+/// The same operations.
+fn copy_lists(
+    alloc: Global,
+    lists: &[Vec<LoggedOperation>],
+) -> Result<Vec<Vec<LoggedOperation>>, OutOfMemory>
+    ensures { IfOk result (λ copied. rows copied.items ≡ rows lists.now) }
+{
+    let mut copied = Vec::with_capacity(alloc, lists.len())?;
+    for list in lists {
+        copied.push(Vec::from_slice(alloc, list)?)?;
+    }
+    Ok(copied)
 }
 
 /// A processor's operations as they are read.

@@ -102,7 +102,7 @@ pub fn search_a_log_by_values(alloc: Global, known: &KnownLog) -> Result<ValueFo
 
 /// `log_thinning`: a log without loads that say no more than others.
 pub fn thin_a_log(alloc: Global, log: Log) -> Result<Thinned, OutOfMemory> {
-    let read = read_idle_swaps(alloc, log)?;
+    let read = read_idle_swaps(alloc, &log)?;
     let thinned = thin(alloc, read)?;
     Ok(thinned)
 }

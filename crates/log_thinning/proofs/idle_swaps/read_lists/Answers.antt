@@ -7,9 +7,7 @@ use Rattle.log_thinning.proofs.idle_swaps.read_lists.Goals as goal
 
 pub loop-list-preserved : goal.loop-list-preserved
 loop-list-preserved c =
-    let lists = c.deref-list-items.ensures.value in
-    let within = rw lists at c.loop-list-test.true in
-    let items = c.deref.ensures.value ∙ ap (λ v. v.items) (rw lists at c.list-item.is) in
+    let items = c.deref.ensures.value ∙ ap (λ v. v.items) c.list-item.is in
     ap rows c.in_ok-push.ensures.items
-    ∙ rows_next (flat_map read_of) c.args.log.lists.items c.loop-list.lists.items c.in_ok-read_list.field-0 c.loop-list.list-index _ within c.loop-list.invariant
+    ∙ rows_next (flat_map read_of) c.args.lists.now c.loop-list.read.items c.in_ok-read_list.field-0 c.loop-list.list-index _ c.loop-list-test.true c.loop-list.invariant
     (c.in_ok-read_list.ensures ∙ ap (flat_map read_of) items)

@@ -32,7 +32,7 @@ fn thinned(alloc: Global, text: &str) -> Result<Option<(Vec<usize>, usize)>, Fai
     let Ok(log) = read_log(alloc, text.as_bytes(), false) else {
         return Ok(None);
     };
-    let read = read_idle_swaps(alloc, log)?;
+    let read = read_idle_swaps(alloc, &log)?;
     let thinned = thin(alloc, read)?;
     Ok(Some((lines_left(alloc, &thinned.log)?, thinned.dropped)))
 }
