@@ -1,5 +1,5 @@
 -- Lemmas on what is known after a step.
-use Rattle.std.proofs.Common.{◌≡◌, ◌∙◌, inl, inr, ⊎_elim, sym, ap, subst, refl, ℕ, zero, suc, ◌-◌, ◌≤◌, arith, List, [], ◌∷◌, ◌++◌, Option, Some, None, Vec, Global}
+use Rattle.std.proofs.Common.{◌≡◌, ◌∙◌, inl, inr, ⊎_elim, sym, ap, subst, refl, ℕ, zero, suc, ◌-◌, ◌≤◌, arith, List, [], ◌∷◌, ◌++◌, Option, Some, None, Vec, Global, map}
 use Rattle.std.proofs.Common.{◌<◌, lit<}
 use Rattle.std.specs.List.{Contains}
 use Rattle.std.specs.Option.{SomeIff}
@@ -8,14 +8,14 @@ use Rattle.std.proofs.lemmas.List.Elements.{Contains-append_left, Contains-appen
 use Rattle.tso_ops.specs.Values.{TraceValue}
 use Rattle.order_paths.proofs.Reach.{Reaches-edge, Reaches-mono}
 use Rattle.chain_reach.specs.declared.types.Reach.{Reach}
-use Rattle.chain_reach.specs.Groups.{node_count}
 use Rattle.chain_reach.specs.Leading.{Joins}
 use Rattle.value_evidence.specs.declared.steps.ValueStep.{ValueStep}
 use Rattle.value_evidence.specs.declared.steps.ValueStep.TheVariants.{Read}
 use Rattle.value_evidence.specs.Candidates.{IsPairBy, SaysBefore}
 use Rattle.value_check.specs.declared.known.Known.{Known}
-use Rattle.value_check.specs.Internal.Chains.{IsWithinPaths}
-use Rattle.value_check.specs.Internal.Known.{AreTablesOf, IsKnownBy, IsNoted}
+use Rattle.program_chains.specs.Chains.{AreProgramChains}
+use Rattle.value_check.specs.Internal.Cells.{AreCells}
+use Rattle.value_check.specs.Internal.Known.{AreTablesOf, IsKnownBy, IsNoted, IsWithinPaths, address_only, value_key}
 use Rattle.value_check.proofs.EventFacts.{joins_within}
 
 -- the last item of a list
@@ -29,12 +29,8 @@ last_contained steps step = Contains-append_right steps (step ∷ []) step (0, o
 tables_kept : (t : TraceValue) (k : Known) (sources takers first_takers : Vec (Option ℕ) Global) → AreTablesOf t k →
     AreTablesOf t (record k { sources = sources; takers = takers; first_takers = first_takers })
 tables_kept t k sources takers first_takers tables = record {
-  model = tables.model;
   events = tables.events;
-  nodes = tables.nodes;
   chains = tables.chains;
-  count = tables.count;
-  in_chains = tables.in_chains;
   values = tables.values;
   addresses = tables.addresses;
   first = tables.first;
@@ -93,14 +89,10 @@ module _ (t : TraceValue) (steps : List ValueStep) (step : ValueStep) where
       IsKnownBy t (steps ++ step ∷ []) (record k { reach = r })
   known_joined k r u v says joins known = record {
     tables = record {
-      model = known.tables.model;
       events = known.tables.events;
-      nodes = ap node_count joins.chains ∙ known.tables.nodes;
-      chains = known.tables.chains;
-      count = known.tables.count;
-      in_chains = known.tables.in_chains;
-      values = known.tables.values;
-      addresses = known.tables.addresses;
+      chains = subst (AreProgramChains t) (sym joins.chains) known.tables.chains;
+      values = subst (λ chains. AreCells (map value_key k.events.items) chains k.values) (sym joins.chains) known.tables.values;
+      addresses = subst (λ chains. AreCells (map address_only k.events.items) chains k.addresses) (sym joins.chains) known.tables.addresses;
       first = known.tables.first;
     };
     leads =

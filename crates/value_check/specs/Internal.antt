@@ -1,7 +1,5 @@
 -- What private tables keep and how far loops have come. No public contract uses these definitions.
 pub mod Cells
-pub mod Chains
-pub mod Events
 pub mod Known
 pub mod Numbering
 pub mod Settling

@@ -5,18 +5,16 @@ ghost use Rattle.tso_ops.specs.Values.{TraceValue};
 ghost use Rattle.tso_ops.specs.Events.{event_at, Earlier, IsEvent, IsLoad, IsSwapLoad, IsStore, SameAddress};
 ghost use Rattle.value_evidence.specs.declared.steps.ValueStep.{ValueStep};
 ghost use Rattle.value_evidence.specs.Candidates.{SeesStore, IsGone};
-ghost use Rattle.value_check.specs.Internal.Events.{as_event};
+ghost use Rattle.program_chains.specs.LogEvents.{as_trace_event};
 ghost use Rattle.value_check.specs.Internal.Known.{IsKnownBy, source_number};
 
 use crate::cells::Cells;
-use crate::events::LogEvent;
 use chain_reach::Reach;
-use tso_ops::Order;
+use program_chains::LogEvent;
 
 /// A log's events, with what is known of them by the steps so far. Events go by their indices, which are one less than their numbers.
 #[derive(Drop)]
 pub(crate) struct Known {
-    pub(crate) order: Order,
     pub(crate) events: Vec<LogEvent>,
     /// Whether an event's value is the first value of its address.
     pub(crate) has_first: Vec<bool>,
@@ -57,7 +55,7 @@ impl Known {
 
     /// The event at an index, if there is one.
     pub(crate) fn event(&self, x: usize) -> Option<LogEvent>
-        ensures some { IfSome result (λ e. (t : TraceValue) (steps : List ValueStep) → IsKnownBy t steps self.now → event_at t (suc x) ≡ Some (as_event e)) }
+        ensures some { IfSome result (λ e. (t : TraceValue) (steps : List ValueStep) → IsKnownBy t steps self.now → event_at t (suc x) ≡ Some (as_trace_event e)) }
         ensures none { IfNone result ((t : TraceValue) (steps : List ValueStep) → IsKnownBy t steps self.now → IsEvent t (suc x) → ⊥) }
     {
         if x < self.events.len() {
@@ -103,7 +101,7 @@ impl Known {
         ensures { (t : TraceValue) (steps : List ValueStep) → IsKnownBy t steps self.now → IsTrue result → SameAddress t (suc x) (suc y) }
     {
         match (self.event(x), self.event(y)) {
-            (Some(first), Some(second)) => first.a == second.a,
+            (Some(first), Some(second)) => first.address == second.address,
             _ => false,
         }
     }
@@ -114,7 +112,7 @@ impl Known {
         ensures no { (t : TraceValue) (steps : List ValueStep) → IsKnownBy t steps self.now → Earlier t (suc x) (suc y) → IsTrue result }
     {
         match (self.event(x), self.event(y)) {
-            (Some(first), Some(second)) => first.proc == second.proc && x < y,
+            (Some(first), Some(second)) => first.processor == second.processor && x < y,
             _ => false,
         }
     }

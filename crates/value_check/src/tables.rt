@@ -2,16 +2,14 @@
 ghost use Rattle.std.specs.Prelude.{◌≡◌, ◌<◌, ◌^◌, [], ℕ, List, false, IfOk, get_or, length, map, nat_eq, unwrap_or};
 ghost use Rattle.std.specs.HashMap.{get};
 ghost use Rattle.tso_ops.specs.Settings.{first_value};
-ghost use Rattle.log_text.specs.LogValues.{log_operations, log_value};
-ghost use Rattle.value_check.specs.Internal.Chains.{event_in};
+ghost use Rattle.program_chains.specs.LogEvents.{log_trace};
+ghost use Rattle.program_chains.specs.Internal.Keys.{event_in};
 ghost use Rattle.value_check.specs.Internal.Known.{IsEmptyTable, IsKnownBy, key_by};
 
 use crate::cells::Cells;
-use crate::chains::number_chains;
-use crate::events::{LogEvent, list_events};
 use crate::known::Known;
-use crate::program_reach::program_reach;
 use log_text::Log;
+use program_chains::{LogEvent, ProgramOrder};
 use std::alloc::Global;
 use std::collections::HashMap;
 use tso_ops::OutOfMemory;
@@ -20,21 +18,16 @@ impl Known {
     /// The tables of a log, of which nothing is known but its program. OutOfMemory where an allocation was refused, or where it has
     /// 2^32 loads and stores or more.
     pub(crate) fn new(alloc: Global, log: &Log) -> Result<Known, OutOfMemory>
-        ensures { IfOk result (IsKnownBy (log_operations (log_value log.now)) []) }
+        ensures { IfOk result (IsKnownBy (log_trace log.now) []) }
     {
-        let events = list_events(alloc, &log.lists)?;
-        if events.len() > u32::MAX as usize {
-            return Err(OutOfMemory);
-        }
-        let chains = number_chains(alloc, log.order, &events)?;
-        let values = Cells::new(alloc, &keys_of(alloc, &events, true)?, &chains.numbers)?;
-        let addresses = Cells::new(alloc, &keys_of(alloc, &events, false)?, &chains.numbers)?;
+        let ProgramOrder { events, reach } = ProgramOrder::of_log(alloc, log)?;
+        let chains = reach.chains();
+        let count = chains.nodes();
+        let values = Cells::new(alloc, &keys_of(alloc, &events, true)?, chains)?;
+        let addresses = Cells::new(alloc, &keys_of(alloc, &events, false)?, chains)?;
         let has_first = first_tests(alloc, &log.first, &events)?;
         let classes = addresses.classes.count();
-        let reach = program_reach(alloc, log.order, &events, chains)?;
-        let count = events.len();
         Ok(Known {
-            order: log.order,
             events,
             has_first,
             values,
@@ -57,7 +50,7 @@ fn keys_of(
 {
     let mut keys = Vec::with_capacity(alloc, events.len())?;
     for event in events {
-        keys.push((event.a, if by_value { event.value } else { 0 }))?;
+        keys.push((event.address, if by_value { event.value } else { 0 }))?;
     }
     Ok(keys)
 }
@@ -82,9 +75,9 @@ fn first_tests(
 /// Whether an event's value is the first value of its address.
 fn has_first_value(values: &HashMap<u64, u64>, event: LogEvent) -> bool
     ensures { (first : List (ℕ × ℕ)) → ((a : ℕ) → unwrap_or (get nat_eq values.now a) 0 ≡ first_value first a) → result ≡ false →
-        event.value ≡ first_value first event.a → ⊥ }
+        event.value ≡ first_value first event.address → ⊥ }
 {
-    let value = values.get(&event.a).copied().unwrap_or(0);
+    let value = values.get(&event.address).copied().unwrap_or(0);
     event.value == value
 }
 

@@ -3,15 +3,17 @@ use Rattle.std.specs.Prelude.{◌≡◌, ◌⊎◌, ℕ, suc, ◌<◌, false, Bo
 use Rattle.std.specs.List.{Contains}
 use Rattle.tso_ops.specs.Values.{TraceValue}
 use Rattle.tso_ops.specs.Events.{HasFirstValue}
-use Rattle.chain_reach.specs.Groups.{node_count}
+use Rattle.order_paths.specs.Paths.{Reaches}
+use Rattle.chain_reach.specs.declared.types.Reach.{Reach}
+use Rattle.chain_reach.specs.Leading.{Leads}
+use Rattle.program_chains.specs.declared.events.LogEvent.{LogEvent}
+use Rattle.program_chains.specs.Chains.{AreProgramChains}
+use Rattle.program_chains.specs.LogEvents.{AreEventsOf}
 use Rattle.value_evidence.specs.declared.steps.ValueStep.{ValueStep}
 use Rattle.value_evidence.specs.declared.steps.ValueStep.TheVariants.{Read}
 use Rattle.value_evidence.specs.Candidates.{IsPairBy}
-use Rattle.value_check.specs.declared.events.LogEvent.{LogEvent}
 use Rattle.value_check.specs.declared.known.Known.{Known}
 use Rattle.value_check.specs.Internal.Cells.{AreCells}
-use Rattle.value_check.specs.Internal.Chains.{AreChains, IsWithinPaths}
-use Rattle.value_check.specs.Internal.Events.{AreEventsOf}
 
 -- the number of a source: that of the store at an index, or 0
 abbrev pub source_number : Option ℕ → ℕ
@@ -20,25 +22,25 @@ source_number (Some x) = suc x
 
 -- the key of an event by its address and value, and by its address alone
 abbrev pub value_key : LogEvent → ℕ × ℕ
-value_key e = (e.a, e.value)
+value_key e = (e.address, e.value)
 
 abbrev pub address_only : LogEvent → ℕ × ℕ
-address_only e = (e.a, 0)
+address_only e = (e.address, 0)
 
 -- the two keys, the first where the test is true
 abbrev pub key_by : Bool → LogEvent → ℕ × ℕ
-key_by by_value e = (e.a, cond by_value e.value 0)
+key_by by_value e = (e.address, cond by_value e.value 0)
+
+-- what the table puts before what, these paths do
+abbrev pub IsWithinPaths : (ℕ → ℕ → Type 0) → Reach → Type 0
+IsWithinPaths Edge r = (x y : ℕ) → Leads r x y → Reaches Edge (suc x) (suc y)
 
 -- The tables are of the events of these operations.
 pub record AreTablesOf (t : TraceValue) (k : Known) : Type 0 where
-  pub model : t.setting.order ≡ k.order
   pub events : AreEventsOf t k.events.items
-  pub nodes : node_count k.reach.chains ≡ length k.events.items
-  pub chains : List ℕ
-  pub count : ℕ
-  pub in_chains : AreChains k.order k.events.items chains count
-  pub values : AreCells (map value_key k.events.items) chains k.values
-  pub addresses : AreCells (map address_only k.events.items) chains k.addresses
+  pub chains : AreProgramChains t k.reach.chains
+  pub values : AreCells (map value_key k.events.items) k.reach.chains k.values
+  pub addresses : AreCells (map address_only k.events.items) k.reach.chains k.addresses
   pub first : (x : ℕ) → x < length k.events.items → get_or k.has_first.items x false ≡ false → HasFirstValue t (suc x) → ⊥
 
 -- The tables are of these operations, and all else that is known the steps say.

@@ -1,7 +1,7 @@
 use Rattle.std.proofs.Common.{◌≡◌, ◌<◌, ℕ, false, length}
 use Rattle.std.specs.Prelude.{get_or}
 use Rattle.tso_ops.specs.Settings.{first_value}
-use Rattle.value_check.specs.Internal.Chains.{event_in}
+use Rattle.program_chains.specs.Internal.Keys.{event_in}
 use Rattle.value_check.proofs.tables.first_tests.Given as goal
 
 -- the tests so far

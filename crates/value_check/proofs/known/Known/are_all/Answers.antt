@@ -26,7 +26,7 @@ returns c = λ t steps known is below r can.
           let tables = known.tables in
           let key = source_key t k tables c.args.load x below can.0 in
           let cell = cell_of_key t k tables (map value_key k.events.items) k.values tables.values (value_keys t k tables) x c.args.load key.0 below key.1 in
-          let list = c.cells_of-cell-items.ensures (map value_key k.events.items) tables.chains tables.values (subst (λ n. c.args.load < n) (sym (value_keys t k tables)) below) in
+          let list = c.cells_of-cell-items.ensures (map value_key k.events.items) k.reach.chains tables.values (subst (λ n. c.args.load < n) (sym (value_keys t k tables)) below) in
           let at = index_of c.cells_of-cell-items.result.now (group_of k.values.cells x) (list.all (group_of k.values.cells x) cell.0) in
           let settled = c.loop-cell.invariant t steps known (c.in_ok-seen.ensures t steps known) at.0 (omega (arith, at.1)) (subst (λ n. n < count_of k.values.cells) (sym at.2) cell.1)
           x (subst (λ n. IsIn k.values.cells n x) (sym at.2) cell.2) can.0.1 in

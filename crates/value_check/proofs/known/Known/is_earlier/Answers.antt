@@ -1,5 +1,5 @@
 use Rattle.std.proofs.Common.{suc, List, IfNone, arith}
-use Rattle.value_check.specs.Internal.Events.{as_event}
+use Rattle.program_chains.specs.LogEvents.{as_trace_event}
 use Rattle.tso_ops.specs.Values.{TraceValue}
 use Rattle.tso_ops.specs.Events.{IsEvent}
 use Rattle.value_evidence.specs.declared.steps.ValueStep.{ValueStep}
@@ -11,7 +11,7 @@ use Rattle.value_check.proofs.known.Known.is_earlier.Goals as goal
 pub returns-then-first-second-clause-yes : goal.returns-then-first-second-clause-yes
 returns-then-first-second-clause-yes c = λ t steps known is.
     let less = ltb-true c.args.x c.args.y is in
-    (as_event c.in-Some-Some.first, as_event c.in-Some-Some.second, c.in-Some-Some.ensures.some t steps known, c.in-Some-Some.ensures'.some t steps known, c.if-first-second.true, omega arith)
+    (as_trace_event c.in-Some-Some.first, as_trace_event c.in-Some-Some.second, c.in-Some-Some.ensures.some t steps known, c.in-Some-Some.ensures'.some t steps known, c.if-first-second.true, omega arith)
 
 pub returns-else-first-second-clause-no : goal.returns-else-first-second-clause-no
 returns-else-first-second-clause-no c = λ t steps known earlier.
