@@ -1,36 +1,26 @@
 -- Lemmas on events in cells.
-use Rattle.std.proofs.Common.{◌≡◌, ◌∙◌, ⊎_elim, sym, ap, subst, refl, ℕ, suc, ◌<◌, ◌≤◌, List, [], ◌∷◌, ◌++◌, length, Some, slice_index, map, arith}
+use Rattle.std.proofs.Common.{◌≡◌, ◌∙◌, sym, ap, refl, ℕ, suc, ◌<◌, List, length, Some, slice_index, map, arith}
 use Rattle.std.specs.Prelude.{get_or}
-use Rattle.std.specs.List.{All, Contains}
-use Rattle.std.proofs.lemmas.List.{get_or-map, get_or_append_left, get_or_default, length-append, length-map}
-use Rattle.std.proofs.Math.Seq.{get_or-append_seam}
-use Rattle.std.proofs.lemmas.Bool.{cases_lt}
+use Rattle.std.specs.List.{Contains}
+use Rattle.std.proofs.lemmas.List.{get_or-map, get_or_default, length-map}
 use Rattle.std.proofs.lemmas.List.Elements.{Contains-get_or}
 use Rattle.bitsets.specs.Rows.{IsListOf}
 use Rattle.chain_reach.specs.Groups.{node_count, count_of, group_of, IsIn}
 use Rattle.chain_reach.proofs.ListFacts.{ascending_at}
 use Rattle.tso_ops.specs.Values.{TraceValue}
 use Rattle.tso_ops.specs.declared.events.Event.{Event}
-use Rattle.tso_ops.specs.Events.{event_at, IsEvent, IsStore, HasSource}
+use Rattle.tso_ops.specs.Events.{event_at, IsEvent, IsLoad, IsStore, HasSource, SameAddress}
 use Rattle.tso_ops.proofs.NumberFacts.{event_unique}
 use Rattle.value_check.specs.declared.cells.Cells.{Cells}
 use Rattle.value_check.specs.declared.known.Known.{Known}
 use Rattle.value_check.specs.Internal.Cells.{AreCells, class_in}
+use Rattle.chain_reach.specs.declared.types.Groups.{Groups}
+use Rattle.program_chains.specs.declared.events.LogEvent.{LogEvent}
 use Rattle.program_chains.specs.Internal.Keys.{event_in, no_event}
 use Rattle.program_chains.proofs.EventFacts.{at_number, same_number, total}
-use Rattle.value_check.specs.Internal.Known.{AreTablesOf, value_key}
+use Rattle.value_check.specs.Internal.Known.{AreTablesOf, address_only, value_key}
 use Rattle.value_check.specs.Internal.Numbering.{pair_at}
 use Rattle.value_check.specs.Internal.Settling.{AreInOrder}
-
--- one more item with what all have
-pub All-push : (P : ℕ → Type 0) (xs : List ℕ) (x : ℕ) → All P xs → P x → All P (xs ++ x ∷ [])
-All-push P xs x all here k d below =
-    ⊎_elim
-    (λ (before : k < length xs). subst P (sym (get_or_append_left xs (x ∷ []) d k before)) (all k d before))
-    (λ (from : length xs ≤ k).
-    let last : k ≡ length xs = omega (arith, from, below, length-append xs (x ∷ [])) in
-    subst P (sym (ap (λ n. get_or (xs ++ x ∷ []) n d) last ∙ get_or-append_seam xs x [] d)) here)
-    (cases_lt k (length xs))
 
 -- what a list contains stands at an index
 pub index_of : (list : List ℕ) (x : ℕ) → Contains list x → (i : ℕ) × (i < length list) × (slice_index list i ≡ x)
@@ -104,3 +94,55 @@ module _ (t : TraceValue) (k : Known) (tables : AreTablesOf t k) where
       let same_v : (event_in events x).value ≡ (event_in events l).value = ap (λ (e : Event). e.value) vx ∙ value.4 ∙ ap (λ (e : Event). e.value) (sym vl) in
       let pair : value_key (get_or events x no_event) ≡ value_key (get_or events l no_event) = λ i. (same_a i, same_v i) in
       (below_x, get_or-map value_key events x no_event (0, 0) below_x ∙ pair ∙ sym (get_or-map value_key events l no_event (0, 0) below))
+
+  -- the key of an event
+  key_at : (key : LogEvent → ℕ × ℕ) (x : ℕ) → x < length k.events.items → pair_at (map key k.events.items) x ≡ key (get_or k.events.items x no_event)
+  key_at key x below = get_or-map key k.events.items x no_event (0, 0) below
+
+  -- events of one class by their addresses have one address
+  pub address_of_class : (x y : ℕ) → x < length k.events.items → y < length k.events.items → class_in k.addresses x ≡ class_in k.addresses y → SameAddress t (suc x) (suc y)
+  address_of_class x y below_x below_y same =
+      let whole = length-map k.events.items address_only in
+      let keys = tables.addresses.one_key x y (omega (arith, below_x, whole)) (omega (arith, below_y, whole)) same in
+      let pair : address_only (get_or k.events.items x no_event) ≡ address_only (get_or k.events.items y no_event) = sym (key_at address_only x below_x) ∙ keys ∙ key_at address_only y below_y in
+      (event_in k.events.items x, event_in k.events.items y, event_here x below_x, event_here y below_y, ap (λ (p : ℕ × ℕ). p.0) pair)
+
+  -- and the other way round
+  pub class_of_address : (x y : ℕ) → SameAddress t (suc x) (suc y) → class_in k.addresses x ≡ class_in k.addresses y
+  class_of_address x y same =
+      let below_x = index_below x (same.0, same.2) in
+      let below_y = index_below y (same.1, same.3) in
+      let whole = length-map k.events.items address_only in
+      let ax = event_unique t (suc x) (event_in k.events.items x) same.0 (event_here x below_x) same.2 in
+      let ay = event_unique t (suc y) (event_in k.events.items y) same.1 (event_here y below_y) same.3 in
+      let one : (event_in k.events.items x).a ≡ (event_in k.events.items y).a = ap (λ (e : Event). e.a) ax ∙ same.4 ∙ ap (λ (e : Event). e.a) (sym ay) in
+      let pair : address_only (get_or k.events.items x no_event) ≡ address_only (get_or k.events.items y no_event) = λ i. (one i, 0) in
+      tables.addresses.one_class x y (omega (arith, below_x, whole)) (omega (arith, below_y, whole)) (key_at address_only x below_x ∙ pair ∙ sym (key_at address_only y below_y))
+
+  -- a store of a load's class by address and value is one that it can have read by its value
+  pub source_of_class : (l x : ℕ) → x < length k.events.items → IsLoad t (suc l) → IsStore t (suc x) → class_in k.values x ≡ class_in k.values l → HasSource t (suc l) (suc x)
+  source_of_class l x below_x load store same =
+      let below_l = index_below l (load.0, load.1) in
+      let whole = length-map k.events.items value_key in
+      let keys = tables.values.one_key x l (omega (arith, below_x, whole)) (omega (arith, below_l, whole)) same in
+      let pair : value_key (get_or k.events.items x no_event) ≡ value_key (get_or k.events.items l no_event) = sym (key_at value_key x below_x) ∙ keys ∙ key_at value_key l below_l in (
+        load,
+        store,
+        (event_in k.events.items x, event_in k.events.items l, event_here x below_x, event_here l below_l, ap (λ (p : ℕ × ℕ). p.0) pair),
+        (event_in k.events.items x, event_in k.events.items l, event_here x below_x, event_here l below_l, ap (λ (p : ℕ × ℕ). p.1) pair),
+      )
+
+  -- an event of a class by address lies in a cell of it
+  pub cell_of_class : (x l : ℕ) → x < length k.events.items → class_in k.addresses x ≡ class_in k.addresses l →
+      (cell : ℕ) × IsIn k.addresses.classes (class_in k.addresses l) cell × IsIn k.addresses.cells cell x
+  cell_of_class x l below same =
+      let c = k.addresses in
+      let whole = length-map k.events.items address_only in
+      let cell_below = tables.addresses.cell_below x (omega (arith, below, whole)) in
+      let of_cell = tables.addresses.class_of_cell x (omega (arith, below, whole)) in
+      (group_of c.cells x, (omega (arith, cell_below, tables.addresses.cells), of_cell ∙ same), (omega (arith, below, whole, tables.addresses.events), refl))
+
+-- an event of a cell is of the class of the cell
+pub class_of_member : (keys : List (ℕ × ℕ)) (chains : Groups) (c : Cells) → AreCells keys chains c → (d cell x : ℕ) → IsIn c.classes d cell → IsIn c.cells cell x → class_in c x ≡ d
+class_of_member keys chains c cells d cell x in_class in_cell =
+    sym (cells.class_of_cell x (omega (arith, in_cell.0, cells.events))) ∙ ap (group_of c.classes) in_cell.1 ∙ in_class.1

@@ -10,6 +10,7 @@ mod cells;
 mod checks;
 mod following;
 mod known;
+mod noted;
 mod numbering;
 mod reading;
 mod refusals;

@@ -1,13 +1,14 @@
 //! The tables of a log, before any step.
-ghost use Rattle.std.specs.Prelude.{◌≡◌, ◌<◌, ◌^◌, [], ℕ, List, false, IfOk, get_or, length, map, nat_eq, unwrap_or};
+ghost use Rattle.std.specs.Prelude.{◌≡◌, ◌↔◌, [], ℕ, List, IsTrue, IfOk, map, nat_eq, unwrap_or};
 ghost use Rattle.std.specs.HashMap.{get};
 ghost use Rattle.tso_ops.specs.Settings.{first_value};
 ghost use Rattle.program_chains.specs.LogEvents.{log_trace};
-ghost use Rattle.program_chains.specs.Internal.Keys.{event_in};
-ghost use Rattle.value_check.specs.Internal.Known.{IsEmptyTable, IsKnownBy, key_by};
+ghost use Rattle.value_check.specs.Internal.FirstTests.{AreFirstTests};
+ghost use Rattle.value_check.specs.Internal.Known.{IsKnownBy, key_by};
 
 use crate::cells::Cells;
 use crate::known::Known;
+use crate::noted::empty_table;
 use log_text::Log;
 use program_chains::{LogEvent, ProgramOrder};
 use std::alloc::Global;
@@ -61,8 +62,7 @@ fn first_tests(
     first: &[(u64, u64)],
     events: &[LogEvent],
 ) -> Result<Vec<bool>, OutOfMemory>
-    ensures { IfOk result (λ tests. (x : ℕ) → x < length events.now → get_or tests.items x false ≡ false →
-        (event_in events.now x).value ≡ first_value first.now (event_in events.now x).a → ⊥) }
+    ensures { IfOk result (λ tests. AreFirstTests first.now events.now tests.items) }
 {
     let values = first_values(alloc, first)?;
     let mut tests = Vec::with_capacity(alloc, events.len())?;
@@ -74,8 +74,8 @@ fn first_tests(
 
 /// Whether an event's value is the first value of its address.
 fn has_first_value(values: &HashMap<u64, u64>, event: LogEvent) -> bool
-    ensures { (first : List (ℕ × ℕ)) → ((a : ℕ) → unwrap_or (get nat_eq values.now a) 0 ≡ first_value first a) → result ≡ false →
-        event.value ≡ first_value first event.address → ⊥ }
+    ensures { (first : List (ℕ × ℕ)) → ((a : ℕ) → unwrap_or (get nat_eq values.now a) 0 ≡ first_value first a) →
+        IsTrue result ↔ (event.value ≡ first_value first event.address) }
 {
     let value = values.get(&event.address).copied().unwrap_or(0);
     event.value == value
@@ -92,15 +92,4 @@ fn first_values(alloc: Global, first: &[(u64, u64)]) -> Result<HashMap<u64, u64>
         values.insert(first[left].0, first[left].1)?;
     }
     Ok(values)
-}
-
-/// A table without numbers, with so many places.
-fn empty_table(alloc: Global, count: usize) -> Result<Vec<Option<usize>>, OutOfMemory>
-    ensures { IfOk result (λ table. IsEmptyTable table.items) }
-{
-    let mut table = Vec::with_capacity(alloc, count)?;
-    for _ in 0..count {
-        table.push(None)?;
-    }
-    Ok(table)
 }
