@@ -1,5 +1,5 @@
 -- Lemmas on the check of evidence, step by step.
-use Rattle.std.proofs.Common.{◌≡◌, ◌∙◌, inl, inr, sym, ap, subst, ℕ, ◌+◌, ◌<◌, List, [], ◌∷◌, ◌++◌, length, take, Some, arith}
+use Rattle.std.proofs.Common.{◌≡◌, ◌∙◌, inl, inr, sym, ap, subst, ℕ, ◌+◌, List, [], ◌∷◌, ◌++◌, length, take, Some, arith}
 use Rattle.std.specs.Prelude.{slice_get}
 use Rattle.std.proofs.lemmas.Bool.{cases_eq}
 use Rattle.std.proofs.lemmas.List.{take_more}
@@ -8,9 +8,12 @@ use Rattle.std.proofs.Math.Seq.{take-length}
 use Rattle.tso_ops.specs.Values.{TraceValue}
 use Rattle.value_evidence.specs.declared.steps.ValueStep.{ValueStep}
 use Rattle.value_evidence.specs.declared.steps.ValueEvidence.{ValueEvidence}
-use Rattle.value_evidence.specs.Evidence.{EndHolds, EvidenceHolds, ValueStepHolds}
+use Rattle.value_evidence.specs.Evidence.{AllStepsHold, EndHolds, EvidenceHolds, ValueStepHolds}
 use Rattle.value_check.specs.declared.known.Known.{Known}
+use Rattle.value_check.specs.declared.refusals.ValueRefusal.{ValueRefusal}
+use Rattle.value_check.specs.declared.refusals.ValueRefusal.TheVariants.{StepRefused, EndRefused}
 use Rattle.value_check.specs.Internal.Known.{IsKnownBy}
+use Rattle.value_check.specs.Refusals.{IsFirstRefused, IsRefusedFor, StepsHoldBelow}
 
 module _ (t : TraceValue) (steps : List ValueStep) (k : ℕ) (x : ValueStep) (at : slice_get steps k ≡ Some x) where
   -- the steps up to one, and that
@@ -22,8 +25,7 @@ module _ (t : TraceValue) (steps : List ValueStep) (k : ℕ) (x : ValueStep) (at
   known_next new known = subst (λ all. IsKnownBy t all new) (sym taken_next) known
 
   -- one step more that holds
-  pub holds_next : ValueStepHolds t (take k steps) x → ((j : ℕ) (step : ValueStep) → j < k → slice_get steps j ≡ Some step → ValueStepHolds t (take j steps) step) →
-      (j : ℕ) (step : ValueStep) → j < k + 1 → slice_get steps j ≡ Some step → ValueStepHolds t (take j steps) step
+  pub holds_next : ValueStepHolds t (take k steps) x → StepsHoldBelow t steps k → StepsHoldBelow t steps (k + 1)
   holds_next here before j step below at_j =
       elim (cases_eq j k) [
         | inl same ↦
@@ -32,13 +34,28 @@ module _ (t : TraceValue) (steps : List ValueStep) (k : ℕ) (x : ValueStep) (at
         | inr other ↦ before j step (omega (arith, other, below)) at_j
       ]
 
--- evidence of which each step holds, and the end
-pub evidence_holds : (t : TraceValue) (evidence : ValueEvidence) (k : ℕ) → k ≡ length evidence.steps.items →
-    ((j : ℕ) (step : ValueStep) → j < k → slice_get evidence.steps.items j ≡ Some step → ValueStepHolds t (take j evidence.steps.items) step) →
-    EndHolds t (take k evidence.steps.items) evidence.end → EvidenceHolds t evidence
-evidence_holds t evidence k whole holds ends = record {
-  steps = λ j step at. let within = slice_get_within evidence.steps.items j step at in holds j step (omega (arith, within, whole)) at;
-  ends =
-      subst (λ all. EndHolds t all evidence.end) (take-length evidence.steps.items)
-      (subst (λ n. EndHolds t (take n evidence.steps.items) evidence.end) whole ends);
-}
+  -- the first that doesn't
+  pub first_refused : StepsHoldBelow t steps k → (ValueStepHolds t (take k steps) x → ⊥) → IsFirstRefused t steps (k + 1)
+  first_refused before fails = record { place = k; step = x; numbered = omega arith; there = at; before = before; refused = fails }
+
+module _ (t : TraceValue) (evidence : ValueEvidence) (k : ℕ) (whole : k ≡ length evidence.steps.items) (holds : StepsHoldBelow t evidence.steps.items k) where
+  -- all steps hold
+  all_hold : AllStepsHold t evidence.steps.items
+  all_hold j step at = let within = slice_get_within evidence.steps.items j step at in holds j step (omega (arith, within, whole)) at
+
+  -- and those up to the last are all
+  all_taken : take k evidence.steps.items ≡ evidence.steps.items
+  all_taken = ap (λ n. take n evidence.steps.items) whole ∙ take-length evidence.steps.items
+
+  -- evidence of which each step holds, and the end
+  pub evidence_holds : EndHolds t (take k evidence.steps.items) evidence.end → EvidenceHolds t evidence
+  evidence_holds ends = record { steps = all_hold; ends = subst (λ all. EndHolds t all evidence.end) all_taken ends }
+
+  -- or not the end
+  pub end_refused : (EndHolds t (take k evidence.steps.items) evidence.end → ⊥) → IsRefusedFor t evidence EndRefused
+  end_refused fails = (all_hold, λ ends. fails (subst (λ all. EndHolds t all evidence.end) (sym all_taken) ends))
+
+-- evidence that is refused doesn't hold
+pub refused_fails : (t : TraceValue) (evidence : ValueEvidence) (refusal : ValueRefusal) → IsRefusedFor t evidence refusal → EvidenceHolds t evidence → ⊥
+refused_fails t evidence (StepRefused number) is holds = is.refused (holds.steps is.place is.step is.there)
+refused_fails t evidence EndRefused is holds = is.1 holds.ends

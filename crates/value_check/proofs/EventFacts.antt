@@ -1,84 +1,26 @@
--- Lemmas on the events of a log, and on what the program puts before what.
-use Rattle.std.proofs.Common.{◌≡◌, ◌∙◌, ◌⊎◌, inl, inr, sym, ap, subst, refl, ℕ, suc, ◌<◌, ◌≤◌, Bool, true, false, not, IsTrue, List, length, Some, slice_index, arith}
+-- Lemmas on the events of a log: what they are by their table.
+use Rattle.std.proofs.Common.{◌≡◌, ◌∙◌, ◌↔◌, sym, ap, refl, ℕ, suc, ◌<◌, ◌≤◌, Bool, true, false, not, IsTrue, List, length, Some, arith}
 use Rattle.std.specs.Prelude.{get_or, slice_get}
 use Rattle.std.specs.Option.{option_map}
 use Rattle.std.proofs.lemmas.Option.{slice_get-get_or, slice_get-map}
-use Rattle.tso_ops.specs.declared.settings.Order.{Order}
-use Rattle.tso_ops.specs.declared.settings.Order.TheVariants.{Tso, Pso}
-use Rattle.tso_ops.specs.Values.{TraceValue}
-use Rattle.tso_ops.specs.Events.{event_at, IsEvent, Earlier}
-use Rattle.tso_ops.proofs.NumberFacts.{IsEvent-within, event_unique}
-use Rattle.tso_ops.specs.declared.events.Event.{Event}
 use Rattle.std.proofs.lemmas.Bool.{false≢true}
-use Rattle.std.proofs.lemmas.List.{length-map}
-use Rattle.order_paths.specs.Paths.{Reaches}
-use Rattle.order_paths.proofs.Reach.{Reaches-join}
-use Rattle.chain_reach.specs.declared.types.Reach.{Reach}
-use Rattle.chain_reach.specs.Leading.{Leads, IsOrLeads, Joins}
-use Rattle.value_evidence.specs.Candidates.{IsProgramPair}
-use Rattle.value_check.specs.declared.events.LogEvent.{LogEvent}
-use Rattle.value_check.specs.Internal.Events.{as_event, AreEventsOf}
-use Rattle.value_check.specs.Internal.Chains.{AreChains, event_in, no_event, IsKeyOf, IsWithinPaths}
+use Rattle.tso_ops.specs.declared.events.Event.{Event}
+use Rattle.tso_ops.specs.Values.{TraceValue}
+use Rattle.tso_ops.specs.Events.{event_at, Earlier, IsEvent, IsLoad, IsStore, IsSwapLoad, SameAddress}
+use Rattle.tso_ops.proofs.NumberFacts.{event_unique}
+use Rattle.program_chains.specs.declared.events.LogEvent.{LogEvent}
+use Rattle.program_chains.specs.LogEvents.{as_trace_event, AreEventsOf}
+use Rattle.program_chains.proofs.EventFacts.{same_number}
 
 -- the event of a number is the one at the index before
-pub event_read : (t : TraceValue) (events : List LogEvent) → AreEventsOf t events → (x : ℕ) (d : LogEvent) → x < length events → event_at t (suc x) ≡ Some (as_event (get_or events x d))
+pub event_read : (t : TraceValue) (events : List LogEvent) → AreEventsOf t events → (x : ℕ) (d : LogEvent) → x < length events → event_at t (suc x) ≡ Some (as_trace_event (get_or events x d))
 unfolding event_at
 event_read t events are x d below =
-    ap (λ all. slice_get all x) are ∙ slice_get-map as_event events x ∙ ap (option_map as_event) (slice_get-get_or events x d below)
-
--- two events of a chain are in program order
-pub chain_pair : (t : TraceValue) (order : Order) (events : List LogEvent) (chains : List ℕ) (count : ℕ) → t.setting.order ≡ order → AreEventsOf t events →
-    AreChains order events chains count → (x y : ℕ) → x < y → y < length events → slice_index chains x ≡ slice_index chains y → IsProgramPair t (suc x) (suc y)
-chain_pair t order events chains count model are in_chains x y less below same = by_kind (event_in events x).load refl
-  where
-    at_x : event_at t (suc x) ≡ Some (as_event (event_in events x))
-    at_x = event_read t events are x no_event (omega arith)
-
-    at_y : event_at t (suc y) ≡ Some (as_event (event_in events y))
-    at_y = event_read t events are y no_event below
-
-    kind : IsKeyOf (event_in events x) (event_in events y)
-    kind = in_chains.one_kind x y (omega arith) below same
-
-    earlier : Earlier t (suc x) (suc y)
-    earlier = (as_event (event_in events x), as_event (event_in events y), at_x, at_y, kind.0, omega arith)
-
-    by_model : (o : Order) → order ≡ o → (event_in events x).load ≡ false → IsProgramPair t (suc x) (suc y)
-    by_model Tso is store = inr (inl ((as_event (event_in events x), at_x, store), (as_event (event_in events y), at_y, sym kind.1 ∙ store), earlier, inl (model ∙ is)))
-    by_model Pso is store =
-        let address = in_chains.one_address x y (omega arith) below same is store in
-        inr (inl (
-          (as_event (event_in events x), at_x, store),
-          (as_event (event_in events y), at_y, sym kind.1 ∙ store),
-          earlier,
-          inr (as_event (event_in events x), as_event (event_in events y), at_x, at_y, address),
-        ))
-
-    by_kind : (load : Bool) → (event_in events x).load ≡ load → IsProgramPair t (suc x) (suc y)
-    by_kind true is = inl ((as_event (event_in events x), at_x, is), earlier)
-    by_kind false is = by_model order refl is
-
--- what is joined stays within paths that lead from the one end to the other
-pub joins_within : (Edge : ℕ → ℕ → Type 0) (old new : Reach) (u v : ℕ) → Joins old new u v → IsWithinPaths Edge old → Reaches Edge (suc u) (suc v) → IsWithinPaths Edge new
-joins_within Edge old new u v joins within path x y leads = by_cases (joins.leads x y leads)
-  where
-    from : IsOrLeads old x u → Reaches Edge (suc x) (suc v)
-    from (inl same) = subst (λ n. Reaches Edge (suc n) (suc v)) (sym same) path
-    from (inr before) = Reaches-join Edge (suc x) (suc u) (suc v) (within x u before) path
-
-    to : Reaches Edge (suc x) (suc v) → IsOrLeads old v y → Reaches Edge (suc x) (suc y)
-    to way (inl same) = subst (λ n. Reaches Edge (suc x) (suc n)) same way
-    to way (inr after) = Reaches-join Edge (suc x) (suc v) (suc y) way (within v y after)
-
-    by_cases : Leads old x y ⊎ (IsOrLeads old x u × IsOrLeads old v y) → Reaches Edge (suc x) (suc y)
-    by_cases (inl before) = within x y before
-    by_cases (inr both) = to (from both.0) both.1
+    ap (λ all. slice_get all x) (sym are) ∙ slice_get-map as_trace_event events x ∙ ap (option_map as_trace_event) (slice_get-get_or events x d below)
 
 -- past the events there is none
 pub no_event_read : (t : TraceValue) (events : List LogEvent) → AreEventsOf t events → (x : ℕ) → length events ≤ x → IsEvent t (suc x) → ⊥
-no_event_read t events are x past event =
-    let within = IsEvent-within t (suc x) event in
-    omega (arith, ap length are, length-map events as_event)
+no_event_read t events are x past event = let within = (same_number t events are x event.0 event.1).0 in omega (arith, within, past)
 
 -- a test that isn't true is false
 pub not_true : (b : Bool) → IsTrue (not b) → b ≡ false
@@ -89,9 +31,45 @@ pub false_not : (b : Bool) → b ≡ false → IsTrue (not b)
 false_not true is = sym is
 false_not false is = refl
 
--- of two events, by what is known of them, the first isn't program-earlier where they aren't of one processor
-pub same_processor : (t : TraceValue) (x y : ℕ) (d e : LogEvent) → event_at t x ≡ Some (as_event d) → event_at t y ≡ Some (as_event e) → Earlier t x y → d.proc ≡ e.proc
-same_processor t x y d e at_x at_y earlier =
-    let first = event_unique t x (as_event d) earlier.0 at_x earlier.2 in
-    let second = event_unique t y (as_event e) earlier.1 at_y earlier.3 in
-    ap (λ (v : Event). v.proc) first ∙ earlier.4 ∙ ap (λ (v : Event). v.proc) (sym second)
+module _ (t : TraceValue) (n : ℕ) (e : LogEvent) (at : event_at t n ≡ Some (as_trace_event e)) where
+  -- the event of a number is this one
+  this : (other : Event) → event_at t n ≡ Some other → as_trace_event e ≡ other
+  this other is = event_unique t n (as_trace_event e) other at is
+
+  pub load_of : IsTrue e.load ↔ IsLoad t n
+  load_of = (λ is. (as_trace_event e, at, is), λ load. ap (λ (v : Event). v.load) (this load.0 load.1) ∙ load.2)
+
+  pub swap_load_of : (IsTrue e.load × IsTrue e.swap) ↔ IsSwapLoad t n
+  swap_load_of = (
+    λ is. (as_trace_event e, at, is.0, is.1),
+    λ swap. (ap (λ (v : Event). v.load) (this swap.0 swap.1) ∙ swap.2, ap (λ (v : Event). v.swap) (this swap.0 swap.1) ∙ swap.3),
+  )
+
+  pub store_of : IsTrue (not e.load) ↔ IsStore t n
+  store_of = (λ is. (as_trace_event e, at, not_true e.load is), λ store. false_not e.load (ap (λ (v : Event). v.load) (this store.0 store.1) ∙ store.2))
+
+module _ (t : TraceValue) (m n : ℕ) (d e : LogEvent) (at_m : event_at t m ≡ Some (as_trace_event d)) (at_n : event_at t n ≡ Some (as_trace_event e)) where
+  pub one_address_of : (d.address ≡ e.address) ↔ SameAddress t m n
+  one_address_of = (
+    λ is. (as_trace_event d, as_trace_event e, at_m, at_n, is),
+    λ same. ap (λ (v : Event). v.a) (event_unique t m (as_trace_event d) same.0 at_m same.2) ∙ same.4
+        ∙ ap (λ (v : Event). v.a) (sym (event_unique t n (as_trace_event e) same.1 at_n same.3)),
+  )
+
+  pub earlier_of : ((d.processor ≡ e.processor) × (m < n)) ↔ Earlier t m n
+  earlier_of = (
+    λ is. (as_trace_event d, as_trace_event e, at_m, at_n, is.0, is.1),
+    λ earlier. (
+      ap (λ (v : Event). v.proc) (event_unique t m (as_trace_event d) earlier.0 at_m earlier.2) ∙ earlier.4
+          ∙ ap (λ (v : Event). v.proc) (sym (event_unique t n (as_trace_event e) earlier.1 at_n earlier.3)),
+      earlier.5,
+    ),
+  )
+
+-- events of one address are so from either side, and with a third
+pub address_turned : (t : TraceValue) (m n : ℕ) → SameAddress t m n → SameAddress t n m
+address_turned t m n same = (same.1, same.0, same.3, same.2, sym same.4)
+
+pub address_joined : (t : TraceValue) (m n o : ℕ) → SameAddress t m n → SameAddress t n o → SameAddress t m o
+address_joined t m n o first second =
+    (first.0, second.1, first.2, second.3, first.4 ∙ ap (λ (v : Event). v.a) (event_unique t n first.1 second.0 first.3 second.2) ∙ second.4)

@@ -1,7 +1,12 @@
-pub mod EventFacts
-pub mod NumberingFacts
-pub mod SettlingFacts
+pub mod AnswerFacts
 pub mod CellFacts
-pub mod FollowingFacts
-pub mod FirstFacts
 pub mod CheckFacts
+pub mod EventFacts
+pub mod FirstFacts
+pub mod FollowingFacts
+pub mod LeadingFacts
+pub mod NotedFacts
+pub mod NumberingFacts
+pub mod SeenFacts
+pub mod SettlingFacts
+pub mod TakenFacts

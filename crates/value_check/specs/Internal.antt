@@ -1,8 +1,8 @@
 -- What private tables keep and how far loops have come. No public contract uses these definitions.
 pub mod Cells
-pub mod Chains
-pub mod Events
+pub mod FirstTests
 pub mod Known
+pub mod Noted
 pub mod Numbering
 pub mod Settling
 pub mod Showing

@@ -1,7 +1,8 @@
 //! Events in cells: those of one class that lie in one chain.
 ghost use Rattle.std.specs.Prelude.{◌≡◌, ◌<◌, ◌^◌, ℕ, List, All, length, slice_index, IfOk};
 ghost use Rattle.bitsets.specs.Rows.{IsListOf};
-ghost use Rattle.chain_reach.specs.Groups.{IsIn, count_of};
+ghost use Rattle.chain_reach.specs.Groups.{IsIn, count_of, node_count, group_of};
+ghost use Rattle.chain_reach.specs.declared.types.Groups.{Groups};
 ghost use Rattle.value_check.specs.Internal.Cells.{AreCells, class_in};
 ghost use Rattle.value_check.specs.Internal.Numbering.{pair_at};
 
@@ -26,10 +27,10 @@ impl Cells {
     pub(crate) fn new(
         alloc: Global,
         keys: &[(u64, u64)],
-        chains: &[u32],
+        chains: &Groups,
     ) -> Result<Cells, OutOfMemory>
         requires few { length keys.now < 2 ^ 32 }
-        requires whole { length chains.now ≡ length keys.now }
+        requires whole { node_count chains.now ≡ length keys.now }
         ensures { IfOk result (AreCells keys.now chains.now) }
     {
         let classes = number_pairs(alloc, keys)?;
@@ -46,7 +47,7 @@ impl Cells {
 
     /// The cells of an event's class; none where there is no such event.
     pub(crate) fn cells_of(&self, event: usize) -> &[u32]
-        ensures { (keys : List (ℕ × ℕ)) (chains : List ℕ) → AreCells keys chains self.now → event < length keys →
+        ensures { (keys : List (ℕ × ℕ)) (chains : Groups) → AreCells keys chains self.now → event < length keys →
             IsListOf result.now (IsIn self.now.classes (class_in self.now event)) }
     {
         match self.class_of.get(event) {
@@ -69,15 +70,15 @@ impl Cells {
     }
 }
 
-/// The pairs of two lists of one length.
-fn pairs_of(alloc: Global, first: &[u32], second: &[u32]) -> Result<Vec<(u64, u64)>, OutOfMemory>
-    requires { length first.now ≡ length second.now }
-    ensures whole { IfOk result (λ pairs. length pairs.items ≡ length first.now) }
-    ensures is { IfOk result (λ pairs. (i : ℕ) → i < length first.now → pair_at pairs.items i ≡ (slice_index first.now i, slice_index second.now i)) }
+/// The class of each event with its chain.
+fn pairs_of(alloc: Global, classes: &[u32], chains: &Groups) -> Result<Vec<(u64, u64)>, OutOfMemory>
+    requires { node_count chains.now ≡ length classes.now }
+    ensures whole { IfOk result (λ pairs. length pairs.items ≡ length classes.now) }
+    ensures is { IfOk result (λ pairs. (i : ℕ) → i < length classes.now → pair_at pairs.items i ≡ (slice_index classes.now i, group_of chains.now i)) }
 {
-    let mut pairs = Vec::with_capacity(alloc, first.len())?;
-    for i in 0..first.len() {
-        pairs.push((first[i] as u64, second[i] as u64))?;
+    let mut pairs = Vec::with_capacity(alloc, classes.len())?;
+    for i in 0..classes.len() {
+        pairs.push((classes[i] as u64, chains.group(i) as u64))?;
     }
     Ok(pairs)
 }

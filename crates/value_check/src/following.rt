@@ -1,17 +1,20 @@
 //! What is known after a step.
-ghost use Rattle.std.specs.Prelude.{◌∷◌, ◌++◌, [], suc, List};
+ghost use Rattle.std.specs.Prelude.{◌∷◌, ◌++◌, ◌<◌, [], suc, length, List};
 ghost use Rattle.tso_ops.specs.Values.{TraceValue};
+ghost use Rattle.tso_ops.specs.Events.{IsEvent, IsLoad, IsSwapLoad};
 ghost use Rattle.value_evidence.specs.declared.steps.ValueStep.{ValueStep};
-ghost use Rattle.value_evidence.specs.Candidates.{SaysBefore};
-ghost use Rattle.value_check.specs.Internal.Known.{IsKnownBy, IsNoted};
+ghost use Rattle.value_evidence.specs.Evidence.{ValueStepHolds};
+ghost use Rattle.value_check.specs.Internal.Known.{IsKnownBy, IsKnownFrom, SaysJust};
 
 use crate::known::Known;
+use crate::noted::note;
 use value_evidence::ValueStep;
 
 impl Known {
-    /// From now on the step counts as known.
+    /// From now on the step, which follows from what was known, counts as known.
     pub(crate) fn follow(&mut self, step: ValueStep)
-        ensures { (t : TraceValue) (steps : List ValueStep) → IsKnownBy t steps self.old → IsKnownBy t (steps ++ step ∷ []) self.new }
+        ensures { (t : TraceValue) (steps : List ValueStep) → IsKnownBy t steps self.old → ValueStepHolds t steps step →
+            IsKnownBy t (steps ++ step ∷ []) self.new }
     {
         match step {
             ValueStep::Read { load, source } => self.note_source(load, source),
@@ -29,8 +32,8 @@ impl Known {
 
     /// From now on one event counts as one before another, where both numbers are those of events.
     fn join(&mut self, from: usize, to: usize)
-        ensures { (t : TraceValue) (steps : List ValueStep) (step : ValueStep) → SaysBefore step from to → IsKnownBy t steps self.old →
-            IsKnownBy t (steps ++ step ∷ []) self.new }
+        ensures { (t : TraceValue) (steps : List ValueStep) (step : ValueStep) → IsKnownBy t steps self.old → SaysJust step from to →
+            IsEvent t from → IsEvent t to → IsKnownBy t (steps ++ step ∷ []) self.new }
     {
         let Some(u) = self.index_of(from) else {
             return;
@@ -39,19 +42,24 @@ impl Known {
             return;
         };
         let nodes = self.reach.chains().nodes();
-        if u < nodes && v < nodes {
-            self.reach.join(u, v);
+        if u >= nodes {
+            return;
         }
+        if v >= nodes {
+            return;
+        }
+        self.reach.join(u, v);
     }
 
     /// From now on the load counts as one that read this source.
     fn note_source(&mut self, load: usize, source: usize)
-        ensures { (t : TraceValue) (steps : List ValueStep) → IsKnownBy t steps self.old → IsKnownBy t (steps ++ ValueStep.Read load source ∷ []) self.new }
+        ensures { (t : TraceValue) (steps : List ValueStep) → IsKnownBy t steps self.old → IsLoad t load →
+            IsKnownBy t (steps ++ ValueStep.Read load source ∷ []) self.new }
     {
         let Some(l) = self.index_of(load) else {
             return;
         };
-        set(&mut self.sources, l, source);
+        note(&mut self.sources, l, source);
         if self.is_swap_load(l) {
             self.note_taker(l, source);
         }
@@ -59,25 +67,27 @@ impl Known {
 
     /// From now on the source counts as one that this swap's load read.
     fn note_taker(&mut self, load: usize, source: usize)
-        ensures { (t : TraceValue) (steps : List ValueStep) → IsKnownBy t (steps ++ ValueStep.Read (suc load) source ∷ []) self.old →
-            IsKnownBy t (steps ++ ValueStep.Read (suc load) source ∷ []) self.new }
+        ensures { (t : TraceValue) (steps : List ValueStep) → IsKnownFrom t (steps ++ ValueStep.Read (suc load) source ∷ []) steps self.old →
+            IsSwapLoad t (suc load) → load < length self.old.events.items → IsKnownBy t (steps ++ ValueStep.Read (suc load) source ∷ []) self.new }
     {
-        if let Some(store) = source.checked_sub(1) {
-            set(&mut self.takers, store, load);
-            return;
-        }
-        if load < self.addresses.class_of.len() {
-            let class = self.addresses.class_of[load] as usize;
-            set(&mut self.first_takers, class, load);
+        match source.checked_sub(1) {
+            Some(store) => {
+                if self.is_one_address(store, load) {
+                    note(&mut self.takers, store, load);
+                }
+            }
+            None => self.note_first_taker(load),
         }
     }
-}
 
-/// Writes a number into a table, if there is such an index.
-fn set(table: &mut Vec<Option<usize>>, index: usize, number: usize)
-    ensures { IsNoted table.old.items table.new.items index number }
-{
-    if index < table.len() {
-        table[index] = Some(number);
+    /// From now on the first value counts as one that this swap's load read.
+    fn note_first_taker(&mut self, load: usize)
+        ensures { (t : TraceValue) (steps : List ValueStep) → IsKnownFrom t (steps ++ ValueStep.Read (suc load) 0 ∷ []) steps self.old →
+            IsSwapLoad t (suc load) → load < length self.old.events.items → IsKnownBy t (steps ++ ValueStep.Read (suc load) 0 ∷ []) self.new }
+    {
+        if load < self.addresses.class_of.len() {
+            let class = self.addresses.class_of[load] as usize;
+            note(&mut self.first_takers, class, load);
+        }
     }
 }

@@ -1,22 +1,22 @@
 //! What is known of a log by the steps of evidence so far.
-ghost use Rattle.std.specs.Prelude.{◌≡◌, ◌≢◌, ◌<◌, ℕ, suc, List, Some, None, length, get_or, IsTrue, IfSome, IfNone};
+ghost use Rattle.std.specs.Prelude.{◌≡◌, ◌≢◌, ◌<◌, ◌↔◌, ℕ, suc, List, Some, length, IsTrue, IfSome, IfNone, MatchOption};
+ghost use Rattle.std.specs.List.{Contains};
 ghost use Rattle.chain_reach.specs.Leading.{Leads};
 ghost use Rattle.tso_ops.specs.Values.{TraceValue};
 ghost use Rattle.tso_ops.specs.Events.{event_at, Earlier, IsEvent, IsLoad, IsSwapLoad, IsStore, SameAddress};
 ghost use Rattle.value_evidence.specs.declared.steps.ValueStep.{ValueStep};
-ghost use Rattle.value_evidence.specs.Candidates.{SeesStore, IsGone};
-ghost use Rattle.value_check.specs.Internal.Events.{as_event};
-ghost use Rattle.value_check.specs.Internal.Known.{IsKnownBy, source_number};
+ghost use Rattle.value_evidence.specs.Candidates.{SeesStore};
+ghost use Rattle.program_chains.specs.LogEvents.{AreEventsOf, as_trace_event};
+ghost use Rattle.value_check.specs.Internal.Known.{IsKnownBy, IsTaken};
 
 use crate::cells::Cells;
-use crate::events::LogEvent;
+use crate::noted::{Noted, noted_at};
 use chain_reach::Reach;
-use tso_ops::Order;
+use program_chains::LogEvent;
 
 /// A log's events, with what is known of them by the steps so far. Events go by their indices, which are one less than their numbers.
 #[derive(Drop)]
 pub(crate) struct Known {
-    pub(crate) order: Order,
     pub(crate) events: Vec<LogEvent>,
     /// Whether an event's value is the first value of its address.
     pub(crate) has_first: Vec<bool>,
@@ -26,26 +26,33 @@ pub(crate) struct Known {
     pub(crate) addresses: Cells,
     /// What comes before what.
     pub(crate) reach: Reach,
-    /// Of each load the number of its source, where it is known.
-    pub(crate) sources: Vec<Option<usize>>,
-    /// Of each store the swap's load that read it, where one is known.
-    pub(crate) takers: Vec<Option<usize>>,
+    /// Of each load the numbers of sources that steps say.
+    pub(crate) sources: Vec<Noted>,
+    /// Of each store the loads of swaps of its address that read it.
+    pub(crate) takers: Vec<Noted>,
     /// The same of first values, by the classes of addresses.
-    pub(crate) first_takers: Vec<Option<usize>>,
+    pub(crate) first_takers: Vec<Noted>,
 }
 
 impl Known {
     /// Whether an event is known to come before another; false where there is no such event.
     pub(crate) fn leads(&self, x: usize, y: usize) -> bool
-        ensures { IsTrue result → Leads self.now.reach x y }
+        ensures { IsTrue result ↔ Leads self.now.reach x y }
     {
         let nodes = self.reach.chains().nodes();
-        x < nodes && y < nodes && self.reach.leads(x, y)
+        if x >= nodes {
+            return false;
+        }
+        if y >= nodes {
+            return false;
+        }
+        self.reach.leads(x, y)
     }
 
     /// The index of the event of this number, if there is one.
     pub(crate) fn index_of(&self, number: usize) -> Option<usize>
-        ensures { IfSome result (λ x. (number ≡ suc x) × (x < length self.now.events.items)) }
+        ensures { MatchOption result ((x : ℕ) → x < length self.now.events.items → number ≢ suc x)
+            (λ x. (number ≡ suc x) × (x < length self.now.events.items)) }
     {
         let index = number.checked_sub(1)?;
         if index < self.events.len() {
@@ -57,8 +64,8 @@ impl Known {
 
     /// The event at an index, if there is one.
     pub(crate) fn event(&self, x: usize) -> Option<LogEvent>
-        ensures some { IfSome result (λ e. (t : TraceValue) (steps : List ValueStep) → IsKnownBy t steps self.now → event_at t (suc x) ≡ Some (as_event e)) }
-        ensures none { IfNone result ((t : TraceValue) (steps : List ValueStep) → IsKnownBy t steps self.now → IsEvent t (suc x) → ⊥) }
+        ensures some { IfSome result (λ e. (t : TraceValue) → AreEventsOf t self.now.events.items → event_at t (suc x) ≡ Some (as_trace_event e)) }
+        ensures none { IfNone result ((t : TraceValue) → AreEventsOf t self.now.events.items → IsEvent t (suc x) → ⊥) }
     {
         if x < self.events.len() {
             Some(self.events[x])
@@ -69,7 +76,7 @@ impl Known {
 
     /// Whether the event at an index is a load.
     pub(crate) fn is_load(&self, x: usize) -> bool
-        ensures { (t : TraceValue) (steps : List ValueStep) → IsKnownBy t steps self.now → IsTrue result → IsLoad t (suc x) }
+        ensures { (t : TraceValue) → AreEventsOf t self.now.events.items → IsTrue result ↔ IsLoad t (suc x) }
     {
         match self.event(x) {
             Some(event) => event.load,
@@ -79,7 +86,7 @@ impl Known {
 
     /// Whether the event at an index is a swap's load.
     pub(crate) fn is_swap_load(&self, x: usize) -> bool
-        ensures { (t : TraceValue) (steps : List ValueStep) → IsKnownBy t steps self.now → IsTrue result → IsSwapLoad t (suc x) }
+        ensures { (t : TraceValue) → AreEventsOf t self.now.events.items → IsTrue result ↔ IsSwapLoad t (suc x) }
     {
         match self.event(x) {
             Some(event) => event.load && event.swap,
@@ -89,8 +96,7 @@ impl Known {
 
     /// Whether the event at an index is a store.
     pub(crate) fn is_store(&self, x: usize) -> bool
-        ensures no { (t : TraceValue) (steps : List ValueStep) → IsKnownBy t steps self.now → IsStore t (suc x) → IsTrue result }
-        ensures yes { (t : TraceValue) (steps : List ValueStep) → IsKnownBy t steps self.now → IsTrue result → IsStore t (suc x) }
+        ensures { (t : TraceValue) → AreEventsOf t self.now.events.items → IsTrue result ↔ IsStore t (suc x) }
     {
         match self.event(x) {
             Some(event) => !event.load,
@@ -100,28 +106,27 @@ impl Known {
 
     /// Whether two events have one address.
     pub(crate) fn is_one_address(&self, x: usize, y: usize) -> bool
-        ensures { (t : TraceValue) (steps : List ValueStep) → IsKnownBy t steps self.now → IsTrue result → SameAddress t (suc x) (suc y) }
+        ensures { (t : TraceValue) → AreEventsOf t self.now.events.items → IsTrue result ↔ SameAddress t (suc x) (suc y) }
     {
         match (self.event(x), self.event(y)) {
-            (Some(first), Some(second)) => first.a == second.a,
+            (Some(first), Some(second)) => first.address == second.address,
             _ => false,
         }
     }
 
     /// Whether an event is program-earlier than another.
     pub(crate) fn is_earlier(&self, x: usize, y: usize) -> bool
-        ensures yes { (t : TraceValue) (steps : List ValueStep) → IsKnownBy t steps self.now → IsTrue result → Earlier t (suc x) (suc y) }
-        ensures no { (t : TraceValue) (steps : List ValueStep) → IsKnownBy t steps self.now → Earlier t (suc x) (suc y) → IsTrue result }
+        ensures { (t : TraceValue) → AreEventsOf t self.now.events.items → IsTrue result ↔ Earlier t (suc x) (suc y) }
     {
         match (self.event(x), self.event(y)) {
-            (Some(first), Some(second)) => first.proc == second.proc && x < y,
+            (Some(first), Some(second)) => first.processor == second.processor && x < y,
             _ => false,
         }
     }
 
     /// Whether a load sees a store: one to its address that comes before it or is program-earlier.
     pub(crate) fn sees(&self, load: usize, store: usize) -> bool
-        ensures { (t : TraceValue) (steps : List ValueStep) → IsKnownBy t steps self.now → IsTrue result → SeesStore t steps (suc load) (suc store) }
+        ensures { (t : TraceValue) (steps : List ValueStep) → IsKnownBy t steps self.now → IsTrue result ↔ SeesStore t steps (suc load) (suc store) }
     {
         if !self.is_store(store) {
             return false;
@@ -132,64 +137,36 @@ impl Known {
         self.leads(store, load) || self.is_earlier(store, load)
     }
 
-    /// Whether a load is known to have read another number than that of this store; with None, another than the first value.
-    pub(crate) fn read_another(&self, load: usize, store: Option<usize>) -> bool
-        ensures { (t : TraceValue) (steps : List ValueStep) → IsKnownBy t steps self.now → IsTrue result → IsGone t steps (suc load) (source_number store) }
+    /// Whether steps say that a load read another number than this one.
+    pub(crate) fn read_another(&self, load: usize, number: usize) -> bool
+        ensures { (t : TraceValue) (steps : List ValueStep) → IsKnownBy t steps self.now → load < length self.now.events.items →
+            IsTrue result ↔ ((s : ℕ) × Contains steps (ValueStep.Read (suc load) s) × (s ≢ number)) }
     {
-        match entry(&self.sources, load) {
-            Some(source) => source.checked_sub(1) != store,
-            None => false,
-        }
+        noted_at(&self.sources, load).has_other(number)
     }
 
-    /// Whether another swap of the address than a swap's load is known to have read the store.
+    /// Whether steps say that another swap of the address than a swap's load read a store to it.
     pub(crate) fn is_taken(&self, load: usize, store: usize) -> bool
-        ensures { (t : TraceValue) (steps : List ValueStep) → IsKnownBy t steps self.now → IsTrue result → IsGone t steps (suc load) (suc store) }
+        ensures { (t : TraceValue) (steps : List ValueStep) → IsKnownBy t steps self.now → SameAddress t (suc store) (suc load) →
+            IsTrue result ↔ IsTaken t steps (suc load) (suc store) }
     {
-        match entry(&self.takers, store) {
-            Some(taker) => self.is_other_swap(taker, load),
-            None => false,
+        if !self.is_swap_load(load) {
+            return false;
         }
+        noted_at(&self.takers, store).has_other(load)
     }
 
-    /// Whether another swap of the address than a swap's load is known to have read the first value.
+    /// Whether steps say that another swap of the address than a swap's load read the first value.
     pub(crate) fn is_first_taken(&self, load: usize) -> bool
-        ensures { (t : TraceValue) (steps : List ValueStep) → IsKnownBy t steps self.now → IsTrue result → IsGone t steps (suc load) 0 }
+        ensures { (t : TraceValue) (steps : List ValueStep) → IsKnownBy t steps self.now → IsTrue result ↔ IsTaken t steps (suc load) 0 }
     {
-        let Some(class) = self.addresses.class_of.get(load) else {
-            return false;
-        };
-        match entry(&self.first_takers, *class as usize) {
-            Some(taker) => self.is_other_swap(taker, load),
-            None => false,
-        }
-    }
-
-    /// Whether two events are loads of different swaps of one address.
-    fn is_other_swap(&self, x: usize, y: usize) -> bool
-        ensures { (t : TraceValue) (steps : List ValueStep) → IsKnownBy t steps self.now → IsTrue result →
-            IsSwapLoad t (suc x) × IsSwapLoad t (suc y) × SameAddress t (suc x) (suc y) × (suc x ≢ suc y) }
-    {
-        if x == y {
+        if !self.is_swap_load(load) {
             return false;
         }
-        if !self.is_swap_load(x) {
+        if load >= self.addresses.class_of.len() {
             return false;
         }
-        if !self.is_swap_load(y) {
-            return false;
-        }
-        self.is_one_address(x, y)
-    }
-}
-
-/// The number in a table at an index; None past its end.
-fn entry(table: &[Option<usize>], index: usize) -> Option<usize>
-    ensures { result ≡ get_or table.now index None }
-{
-    if index < table.len() {
-        table[index]
-    } else {
-        None
+        let class = self.addresses.class_of[load] as usize;
+        noted_at(&self.first_takers, class).has_other(load)
     }
 }

@@ -7,14 +7,11 @@ pub use checks::check_values;
 pub use refusals::ValueRefusal;
 
 mod cells;
-mod chains;
 mod checks;
-mod events;
 mod following;
 mod known;
+mod noted;
 mod numbering;
-mod program;
-mod program_reach;
 mod reading;
 mod refusals;
 mod settling;

@@ -1,13 +1,15 @@
 //! What a load can have read, by what is known.
-ghost use Rattle.std.specs.Prelude.{◌<◌, ℕ, suc, List, IsTrue, IfOk, IfSome, length};
-ghost use Rattle.chain_reach.specs.Groups.{IsIn, count_of};
-ghost use Rattle.tso_ops.specs.Events.{IsStore};
+ghost use Rattle.std.specs.Prelude.{◌≡◌, false, get_or, ◌≤◌, ◌<◌, ◌↔◌, ℕ, suc, List, IsTrue, IfOk, MatchBool, length};
+ghost use Rattle.chain_reach.specs.Groups.{IsIn};
+ghost use Rattle.chain_reach.specs.Internal.Lists.{IsCut};
+ghost use Rattle.tso_ops.specs.Events.{IsLoad};
 ghost use Rattle.tso_ops.specs.Values.{TraceValue};
 ghost use Rattle.value_evidence.specs.declared.steps.ValueStep.{ValueStep};
 ghost use Rattle.value_evidence.specs.Candidates.{CanRead, SeesStore};
+ghost use Rattle.value_check.specs.Internal.Cells.{class_in};
 ghost use Rattle.value_check.specs.Internal.Known.{IsKnownBy};
 ghost use Rattle.value_check.specs.Internal.Showing.{ShowsAll};
-ghost use Rattle.value_check.specs.Internal.Settling.{AreSeen, Meets, Settles, SeesAll};
+ghost use Rattle.value_check.specs.Internal.Settling.{AreLastSeen, AreSeen, AreSeenFirst, HasUnsettledIn, Meets, SettlesIn};
 
 use crate::known::Known;
 use crate::settling::{Demand, Question};
@@ -39,33 +41,47 @@ impl Known {
 
     /// Whether the first value is as a step asks, or can't have been read.
     fn is_first_settled(&self, question: &Question) -> bool
-        ensures { (t : TraceValue) (steps : List ValueStep) → IsKnownBy t steps self.now → AreSeen t steps question.now → IsTrue result →
-            question.now.load < length self.now.events.items → CanRead t steps (suc question.now.load) 0 →
-            Meets t steps (suc question.now.load) question.now.wanted 0 }
+        ensures { (t : TraceValue) (steps : List ValueStep) → IsKnownBy t steps self.now → AreSeen t steps question.now → IsLoad t (suc question.now.load) →
+            IsTrue result ↔ (CanRead t steps (suc question.now.load) 0 → Meets t steps (suc question.now.load) question.now.wanted 0) }
     {
         if question.seen.len() > 0 {
             return true;
         }
-        if let Some(false) = self.has_first.get(question.load) {
+        if !self.has_first_value(question.load) {
             return true;
         }
         if self.is_first_taken(question.load) {
             return true;
         }
-        if self.read_another(question.load, None) {
+        if self.read_another(question.load, 0) {
             return true;
         }
         match question.wanted {
             Demand::Is(number) => number == 0,
             Demand::Before(_) => true,
-            Demand::After(_) | Demand::UpTo(_) | Demand::Nothing => false,
+            Demand::After(_) => false,
+            Demand::UpTo(_) => false,
+            Demand::Nothing => false,
         }
     }
 
-    /// Whether the stores of a cell are settled; those of a cell of loads are, as there are none.
+    /// Whether an event has the first value of its address.
+    fn has_first_value(&self, x: usize) -> bool
+        ensures { result ≡ get_or self.now.has_first.items x false }
+    {
+        if x < self.has_first.len() {
+            self.has_first[x]
+        } else {
+            false
+        }
+    }
+
+    /// Whether the stores of a cell are settled, which has events of the load's value and address. Those of a cell of loads are, as
+    /// there are none.
     fn is_cell_settled(&self, question: &Question, cell: u32) -> bool
-        ensures { (t : TraceValue) (steps : List ValueStep) → IsKnownBy t steps self.now → AreSeen t steps question.now → IsTrue result →
-            cell < count_of self.now.values.cells → (x : ℕ) → IsIn self.now.values.cells cell x → IsStore t (suc x) → Settles t steps question.now x }
+        ensures { (t : TraceValue) (steps : List ValueStep) → IsKnownBy t steps self.now → AreSeen t steps question.now → IsLoad t (suc question.now.load) →
+            IsIn self.now.values.classes (class_in self.now.values question.now.load) cell →
+            MatchBool result (SettlesIn t steps self.now question.now cell) (HasUnsettledIn t steps self.now question.now cell) }
     {
         let stores = self.values.members(cell);
         if stores.len() == 0 {
@@ -77,22 +93,27 @@ impl Known {
         self.are_settled(question, stores)
     }
 
-    /// Stores that a load sees: of each chain the last one to its address.
+    /// The last stores that a load sees: of each cell of its address the last one.
     fn seen_stores(&self, alloc: Global, load: usize) -> Result<Vec<usize>, OutOfMemory>
-        ensures { IfOk result (λ seen. (t : TraceValue) (steps : List ValueStep) → IsKnownBy t steps self.now → SeesAll t steps load seen.items) }
+        ensures { IfOk result (λ seen. (t : TraceValue) (steps : List ValueStep) → IsKnownBy t steps self.now → IsLoad t (suc load) →
+            AreLastSeen t steps load seen.items) }
     {
         let mut seen = Vec::new(alloc);
         for cell in self.addresses.cells_of(load) {
-            if let Some(store) = self.last_seen(load, self.addresses.members(*cell)) {
-                seen.push(store)?;
+            let members = self.addresses.members(*cell);
+            let count = self.count_seen(load, members);
+            if count > 0 {
+                seen.push(members[count - 1] as usize)?;
             }
         }
         Ok(seen)
     }
 
-    /// The last of some events in program order that a load sees.
-    fn last_seen(&self, load: usize, stores: &[u32]) -> Option<usize>
-        ensures { IfSome result (λ w. (t : TraceValue) (steps : List ValueStep) → IsKnownBy t steps self.now → SeesStore t steps (suc load) (suc w)) }
+    /// How many of some events a load sees as stores, where it sees none that stands after another one that it doesn't.
+    fn count_seen(&self, load: usize, stores: &[u32]) -> usize
+        ensures within { result ≤ length stores.now }
+        ensures cut { (t : TraceValue) (steps : List ValueStep) → IsKnownBy t steps self.now → AreSeenFirst t steps load stores.now →
+            IsCut stores.now (λ w. SeesStore t steps (suc load) (suc w)) result }
     {
         let mut low = 0;
         let mut high = stores.len();
@@ -104,14 +125,6 @@ impl Known {
                 high = middle;
             }
         }
-        if low == 0 {
-            return None;
-        }
-        let store = stores[low - 1] as usize;
-        if self.sees(load, store) {
-            Some(store)
-        } else {
-            None
-        }
+        low
     }
 }

@@ -1,10 +1,10 @@
 //! Whether all that a load can have read is as a step asks.
-ghost use Rattle.std.specs.Prelude.{◌≡◌, ◌⊎◌, ◌<◌, ◌≤◌, ℕ, suc, List, length, slice_index, IsTrue};
+ghost use Rattle.std.specs.Prelude.{◌≤◌, ◌<◌, ◌↔◌, ℕ, suc, List, length, slice_index, IsTrue, MatchBool};
 ghost use Rattle.tso_ops.specs.Values.{TraceValue};
+ghost use Rattle.tso_ops.specs.Events.{HasSource};
 ghost use Rattle.value_evidence.specs.declared.steps.ValueStep.{ValueStep};
-ghost use Rattle.value_evidence.specs.Candidates.{IsGone, IsProgramPair};
 ghost use Rattle.value_check.specs.Internal.Known.{IsKnownBy};
-ghost use Rattle.value_check.specs.Internal.Settling.{AreInOrder, AreSeen, IsSettled, Meets, Settles};
+ghost use Rattle.value_check.specs.Internal.Settling.{AreInOrder, AreSeen, AreSources, HasUnsettled, IsAsked, IsOver, Settles, SettlesAfter, SettlesBefore};
 
 use crate::known::Known;
 
@@ -23,7 +23,7 @@ pub(crate) enum Demand {
     Nothing,
 }
 
-/// A load with what is asked of what it can have read, and stores that it sees.
+/// A load with what is asked of what it can have read, and the last stores that it sees.
 #[derive(Drop)]
 pub(crate) struct Question {
     pub(crate) load: usize,
@@ -35,8 +35,8 @@ impl Known {
     /// Whether one of the stores that the load sees comes after a store: then the load can't have read it, nor what is before it in
     /// program order.
     fn is_over(&self, question: &Question, store: usize) -> bool
-        ensures { (t : TraceValue) (steps : List ValueStep) → IsKnownBy t steps self.now → AreSeen t steps question.now → IsTrue result →
-            (r : ℕ) → (r ≡ suc store) ⊎ IsProgramPair t r (suc store) → IsGone t steps (suc question.now.load) r }
+        ensures { (t : TraceValue) (steps : List ValueStep) → IsKnownBy t steps self.now → AreSeen t steps question.now →
+            IsTrue result ↔ IsOver t steps (suc question.now.load) (suc store) }
     {
         for seen in &question.seen {
             if self.leads(store, *seen) {
@@ -48,22 +48,24 @@ impl Known {
 
     /// Whether a store is settled, and with it what is before it in program order.
     fn settles_before(&self, question: &Question, store: usize) -> bool
-        ensures { (t : TraceValue) (steps : List ValueStep) → IsKnownBy t steps self.now → AreSeen t steps question.now → IsTrue result →
-            (r : ℕ) → (r ≡ suc store) ⊎ IsProgramPair t r (suc store) → IsSettled t steps (suc question.now.load) question.now.wanted r }
+        ensures { (t : TraceValue) (steps : List ValueStep) → IsKnownBy t steps self.now → AreSeen t steps question.now →
+            IsTrue result ↔ SettlesBefore t steps question.now store }
     {
         if self.is_over(question, store) {
             return true;
         }
         match question.wanted {
-            Demand::Before(to) | Demand::UpTo(to) => self.leads(store, to),
-            Demand::Is(_) | Demand::After(_) | Demand::Nothing => false,
+            Demand::Before(to) => self.leads(store, to),
+            Demand::UpTo(to) => self.leads(store, to),
+            Demand::Is(_) => false,
+            Demand::After(_) => false,
+            Demand::Nothing => false,
         }
     }
 
     /// Whether a store is settled, and with it what is after it in program order.
     fn settles_after(&self, question: &Question, store: usize) -> bool
-        ensures { (t : TraceValue) (steps : List ValueStep) → IsKnownBy t steps self.now → IsTrue result →
-            (r : ℕ) → (r ≡ suc store) ⊎ IsProgramPair t (suc store) r → IsSettled t steps (suc question.now.load) question.now.wanted r }
+        ensures { (t : TraceValue) (steps : List ValueStep) → IsKnownBy t steps self.now → IsTrue result ↔ SettlesAfter t steps question.now store }
     {
         if self.is_earlier(store, question.load) {
             return false;
@@ -73,35 +75,45 @@ impl Known {
         }
         match question.wanted {
             Demand::After(from) => self.leads(from, store),
-            Demand::Is(_) | Demand::Before(_) | Demand::UpTo(_) | Demand::Nothing => false,
+            Demand::Is(_) => false,
+            Demand::Before(_) => false,
+            Demand::UpTo(_) => false,
+            Demand::Nothing => false,
         }
     }
 
     /// Whether a store itself is as the step asks.
     fn is_asked(&self, question: &Question, store: usize) -> bool
-        ensures { (t : TraceValue) (steps : List ValueStep) → IsKnownBy t steps self.now → IsTrue result →
-            Meets t steps (suc question.now.load) question.now.wanted (suc store) }
+        ensures { (t : TraceValue) (steps : List ValueStep) → IsKnownBy t steps self.now → IsTrue result ↔ IsAsked t question.now question.now.wanted store }
     {
         match question.wanted {
-            Demand::Is(number) => number.checked_sub(1) == Some(store),
+            Demand::Is(number) => number > 0 && number - 1 == store,
             Demand::After(from) => from == store && !self.is_earlier(store, question.load),
             Demand::UpTo(to) => store == to,
-            Demand::Before(_) | Demand::Nothing => false,
+            Demand::Before(_) => false,
+            Demand::Nothing => false,
         }
     }
 
-    /// Whether a store is as the step asks, or can't have been read.
-    fn settles(&self, question: &Question, store: usize) -> bool
-        ensures { (t : TraceValue) (steps : List ValueStep) → IsKnownBy t steps self.now → AreSeen t steps question.now → IsTrue result →
-            Settles t steps question.now store }
+    /// Whether a store of the load's value to its address is as the step asks, or can't have been read.
+    fn settles(&self, question: &Question, store: u32) -> bool
+        ensures { (t : TraceValue) (steps : List ValueStep) → IsKnownBy t steps self.now → AreSeen t steps question.now →
+            HasSource t (suc question.now.load) (suc store) → IsTrue result ↔ Settles t steps question.now store }
     {
-        if self.settles_before(question, store) || self.settles_after(question, store) {
+        let x = store as usize;
+        if self.settles_before(question, x) {
             return true;
         }
-        if self.is_taken(question.load, store) || self.read_another(question.load, Some(store)) {
+        if self.settles_after(question, x) {
             return true;
         }
-        self.is_asked(question, store)
+        if self.is_taken(question.load, x) {
+            return true;
+        }
+        if self.read_another(question.load, x + 1) {
+            return true;
+        }
+        self.is_asked(question, x)
     }
 
     /// So many of some stores in program order, from the first on, are settled by the last of them.
@@ -143,15 +155,17 @@ impl Known {
         high
     }
 
-    /// Whether all of some stores in program order are settled.
+    /// Whether all of some stores in program order are settled, which have the load's value and are to its address.
     pub(crate) fn are_settled(&self, question: &Question, stores: &[u32]) -> bool
-        ensures { (t : TraceValue) (steps : List ValueStep) → IsKnownBy t steps self.now → AreSeen t steps question.now → AreInOrder t stores.now → IsTrue result →
-            (i : ℕ) → i < length stores.now → Settles t steps question.now (slice_index stores.now i) }
+        ensures { (t : TraceValue) (steps : List ValueStep) → IsKnownBy t steps self.now → AreSeen t steps question.now →
+            AreInOrder t stores.now → AreSources t question.now.load stores.now →
+            MatchBool result ((i : ℕ) → i < length stores.now → Settles t steps question.now (slice_index stores.now i))
+            (HasUnsettled t steps question.now stores.now) }
     {
         let low = self.settled_end(question, stores);
         let high = self.settled_start(question, low, stores);
         for i in low..high {
-            if !self.settles(question, stores[i] as usize) {
+            if !self.settles(question, stores[i]) {
                 return false;
             }
         }

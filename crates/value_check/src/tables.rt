@@ -1,17 +1,16 @@
 //! The tables of a log, before any step.
-ghost use Rattle.std.specs.Prelude.{◌≡◌, ◌<◌, ◌^◌, [], ℕ, List, false, IfOk, get_or, length, map, nat_eq, unwrap_or};
+ghost use Rattle.std.specs.Prelude.{◌≡◌, ◌↔◌, [], ℕ, List, IsTrue, IfOk, map, nat_eq, unwrap_or};
 ghost use Rattle.std.specs.HashMap.{get};
 ghost use Rattle.tso_ops.specs.Settings.{first_value};
-ghost use Rattle.log_text.specs.LogValues.{log_operations, log_value};
-ghost use Rattle.value_check.specs.Internal.Chains.{event_in};
-ghost use Rattle.value_check.specs.Internal.Known.{IsEmptyTable, IsKnownBy, key_by};
+ghost use Rattle.program_chains.specs.LogEvents.{log_trace};
+ghost use Rattle.value_check.specs.Internal.FirstTests.{AreFirstTests};
+ghost use Rattle.value_check.specs.Internal.Known.{IsKnownBy, key_by};
 
 use crate::cells::Cells;
-use crate::chains::number_chains;
-use crate::events::{LogEvent, list_events};
 use crate::known::Known;
-use crate::program_reach::program_reach;
+use crate::noted::empty_table;
 use log_text::Log;
+use program_chains::{LogEvent, ProgramOrder};
 use std::alloc::Global;
 use std::collections::HashMap;
 use tso_ops::OutOfMemory;
@@ -20,21 +19,16 @@ impl Known {
     /// The tables of a log, of which nothing is known but its program. OutOfMemory where an allocation was refused, or where it has
     /// 2^32 loads and stores or more.
     pub(crate) fn new(alloc: Global, log: &Log) -> Result<Known, OutOfMemory>
-        ensures { IfOk result (IsKnownBy (log_operations (log_value log.now)) []) }
+        ensures { IfOk result (IsKnownBy (log_trace log.now) []) }
     {
-        let events = list_events(alloc, &log.lists)?;
-        if events.len() > u32::MAX as usize {
-            return Err(OutOfMemory);
-        }
-        let chains = number_chains(alloc, log.order, &events)?;
-        let values = Cells::new(alloc, &keys_of(alloc, &events, true)?, &chains.numbers)?;
-        let addresses = Cells::new(alloc, &keys_of(alloc, &events, false)?, &chains.numbers)?;
+        let ProgramOrder { events, reach } = ProgramOrder::of_log(alloc, log)?;
+        let chains = reach.chains();
+        let count = chains.nodes();
+        let values = Cells::new(alloc, &keys_of(alloc, &events, true)?, chains)?;
+        let addresses = Cells::new(alloc, &keys_of(alloc, &events, false)?, chains)?;
         let has_first = first_tests(alloc, &log.first, &events)?;
         let classes = addresses.classes.count();
-        let reach = program_reach(alloc, log.order, &events, chains)?;
-        let count = events.len();
         Ok(Known {
-            order: log.order,
             events,
             has_first,
             values,
@@ -57,7 +51,7 @@ fn keys_of(
 {
     let mut keys = Vec::with_capacity(alloc, events.len())?;
     for event in events {
-        keys.push((event.a, if by_value { event.value } else { 0 }))?;
+        keys.push((event.address, if by_value { event.value } else { 0 }))?;
     }
     Ok(keys)
 }
@@ -68,8 +62,7 @@ fn first_tests(
     first: &[(u64, u64)],
     events: &[LogEvent],
 ) -> Result<Vec<bool>, OutOfMemory>
-    ensures { IfOk result (λ tests. (x : ℕ) → x < length events.now → get_or tests.items x false ≡ false →
-        (event_in events.now x).value ≡ first_value first.now (event_in events.now x).a → ⊥) }
+    ensures { IfOk result (λ tests. AreFirstTests first.now events.now tests.items) }
 {
     let values = first_values(alloc, first)?;
     let mut tests = Vec::with_capacity(alloc, events.len())?;
@@ -81,10 +74,10 @@ fn first_tests(
 
 /// Whether an event's value is the first value of its address.
 fn has_first_value(values: &HashMap<u64, u64>, event: LogEvent) -> bool
-    ensures { (first : List (ℕ × ℕ)) → ((a : ℕ) → unwrap_or (get nat_eq values.now a) 0 ≡ first_value first a) → result ≡ false →
-        event.value ≡ first_value first event.a → ⊥ }
+    ensures { (first : List (ℕ × ℕ)) → ((a : ℕ) → unwrap_or (get nat_eq values.now a) 0 ≡ first_value first a) →
+        IsTrue result ↔ (event.value ≡ first_value first event.address) }
 {
-    let value = values.get(&event.a).copied().unwrap_or(0);
+    let value = values.get(&event.address).copied().unwrap_or(0);
     event.value == value
 }
 
@@ -99,15 +92,4 @@ fn first_values(alloc: Global, first: &[(u64, u64)]) -> Result<HashMap<u64, u64>
         values.insert(first[left].0, first[left].1)?;
     }
     Ok(values)
-}
-
-/// A table without numbers, with so many places.
-fn empty_table(alloc: Global, count: usize) -> Result<Vec<Option<usize>>, OutOfMemory>
-    ensures { IfOk result (λ table. IsEmptyTable table.items) }
-{
-    let mut table = Vec::with_capacity(alloc, count)?;
-    for _ in 0..count {
-        table.push(None)?;
-    }
-    Ok(table)
 }

@@ -1,22 +1,35 @@
-use Rattle.std.proofs.Common.{sym, subst, suc}
+use Rattle.std.proofs.Common.{◌↔◌, IsTrue, sym, subst, suc}
 use Rattle.std.proofs.lemmas.Result.{IfOk-weaker}
+use Rattle.tso_ops.specs.Events.{IsLoad}
+use Rattle.tso_ops.proofs.NumberFacts.{load_event}
 use Rattle.value_evidence.specs.declared.steps.ValueStep.TheVariants.{In}
 use Rattle.value_evidence.specs.Evidence.{ValueStepHolds}
 use Rattle.value_check.specs.declared.settling.Demand.TheVariants.{After}
 use Rattle.value_check.specs.Internal.Showing.{ShowsAll, ShowsStep}
+use Rattle.value_check.proofs.AnswerFacts.{no_index, not_so, refuses}
 use Rattle.value_check.proofs.CellFacts.{event_of_index}
 use Rattle.value_check.proofs.known.Known.in_holds.Goals as goal
+
+pub returns-in_default : goal.returns-in_default
+returns-in_default c = λ t steps known. refuses (λ holds. no_index t c.args.self.now known.tables c.args.from c.in_default.ensures (holds.0))
+
+pub returns-in_default-index_of : goal.returns-in_default-index_of
+returns-in_default-index_of c = λ t steps known. refuses (λ holds. no_index t c.args.self.now known.tables c.args.load c.in_default-index_of.ensures (load_event t c.args.load holds.1))
+
+pub returns-then-not-is_load : goal.returns-then-not-is_load
+returns-then-not-is_load c = λ t steps known.
+    refuses (λ holds. not_so c.is_load.result (IsLoad t (suc c.in-Some-index_of.l)) (c.is_load.ensures t known.tables.events) c.if-not-is_load.true (subst (λ n. IsLoad t n) c.in-Some-index_of.ensures.0 (holds.1)))
 
 pub returns : goal.returns
 returns c =
     let k = c.args.self.now in
     let u = c.in-Some.u in
     let l = c.in-Some-index_of.l in
-    let at_u = c.in-Some.ensures in
-    let at_l = c.in-Some-index_of.ensures in
     IfOk-weaker c.are_all.result (ShowsAll k l (After u)) (ShowsStep k (In c.args.from c.args.load))
-    (λ is shows t steps known true.
-    subst (λ n. ValueStepHolds t steps (In n c.args.load)) (sym at_u.0)
-    (subst (λ n. ValueStepHolds t steps (In (suc u) n)) (sym at_l.0)
-    (event_of_index t k known.tables u at_u.1, c.is_load.ensures t steps known c.if-not-is_load.false, shows t steps known true at_l.1)))
+    (λ is shows t steps known.
+    let load = (c.is_load.ensures t known.tables.events).0 c.if-not-is_load.false in
+    let all = shows t steps known load in
+    subst (λ n. IsTrue is ↔ ValueStepHolds t steps (In n c.args.load)) (sym c.in-Some.ensures.0)
+    (subst (λ n. IsTrue is ↔ ValueStepHolds t steps (In (suc u) n)) (sym c.in-Some-index_of.ensures.0)
+    (λ true. (event_of_index t k known.tables u c.in-Some.ensures.1, load, all.0 true), λ holds. all.1 holds.2)))
     c.are_all.ensures

@@ -1,24 +1,16 @@
-use Rattle.std.proofs.Common.{◌∙◌, ap, suc, List, IfNone}
-use Rattle.tso_ops.specs.declared.events.Event.{Event}
+use Rattle.std.proofs.Common.{suc, IfNone}
 use Rattle.tso_ops.specs.Values.{TraceValue}
 use Rattle.tso_ops.specs.Events.{IsEvent}
-use Rattle.tso_ops.proofs.NumberFacts.{event_unique}
-use Rattle.value_evidence.specs.declared.steps.ValueStep.{ValueStep}
-use Rattle.value_check.specs.Internal.Events.{as_event}
-use Rattle.value_check.specs.Internal.Known.{IsKnownBy}
-use Rattle.value_check.proofs.EventFacts.{not_true, false_not}
+use Rattle.program_chains.specs.LogEvents.{AreEventsOf}
+use Rattle.value_check.proofs.AnswerFacts.{refuses}
+use Rattle.value_check.proofs.EventFacts.{store_of}
 use Rattle.value_check.proofs.known.Known.is_store.Goals as goal
 
-pub returns-in-Some-clause-yes : goal.returns-in-Some-clause-yes
-returns-in-Some-clause-yes c = λ t steps known is. (as_event c.in-Some.event, c.in-Some.ensures.some t steps known, not_true c.in-Some.event.load is)
+pub returns-in-Some : goal.returns-in-Some
+returns-in-Some c = λ t are. store_of t (suc c.args.x) c.in-Some.event (c.in-Some.ensures.some t are)
 
-pub returns-in-Some-clause-no : goal.returns-in-Some-clause-no
-returns-in-Some-clause-no c = λ t steps known store.
-    let one = event_unique t (suc c.args.x) (as_event c.in-Some.event) store.0 (c.in-Some.ensures.some t steps known) store.1 in
-    false_not c.in-Some.event.load (ap (λ (e : Event). e.load) one ∙ store.2)
-
-pub returns-in-None-clause-no : goal.returns-in-None-clause-no
-returns-in-None-clause-no c = λ t steps known store.
-    let none : IfNone c.event.result ((u : TraceValue) (s : List ValueStep) → IsKnownBy u s c.args.self.now → IsEvent u (suc c.args.x) → ⊥) = c.event.ensures.none in
+pub returns-in-None : goal.returns-in-None
+returns-in-None c = λ t are.
+    let none : IfNone c.event.result ((u : TraceValue) → AreEventsOf u c.args.self.now.events.items → IsEvent u (suc c.args.x) → ⊥) = c.event.ensures.none in
     let is = rw c.in-None.is at none in
-    absurd (is t steps known (store.0, store.1))
+    refuses (λ store. is t are (store.0, store.1))

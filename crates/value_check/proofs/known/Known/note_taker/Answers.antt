@@ -1,12 +1,34 @@
-use Rattle.std.proofs.Common.{arith}
-use Rattle.value_check.proofs.FollowingFacts.{first_taker_noted, no_predecessor, taker_noted}
+use Rattle.std.proofs.Common.{◌≡◌, sym, subst, suc, ◌∷◌, ◌++◌, [], arith}
+use Rattle.tso_ops.specs.Events.{SameAddress}
+use Rattle.value_evidence.specs.declared.steps.ValueStep.TheVariants.{Read}
+use Rattle.value_check.specs.Internal.Known.{IsKnownBy, IsKnownFrom}
+use Rattle.value_check.proofs.AnswerFacts.{not_so}
+use Rattle.value_check.proofs.CellFacts.{index_below}
+use Rattle.value_check.proofs.FollowingFacts.{known_taken, known_untaken}
 use Rattle.value_check.proofs.known.Known.note_taker.Goals as goal
 
-pub returns-in-Some : goal.returns-in-Some
-returns-in-Some c = λ t steps known.
-    taker_noted t steps c.args.load c.args.source c.args.self.now c.set.new.table c.in-Some.store (omega (arith, c.in-Some.ensures.0, c.in-Some.ensures.1)) c.set.ensures known
+pub returns-then-is_one_address : goal.returns-then-is_one_address
+returns-then-is_one_address c = λ t steps known swap below.
+    let k = c.args.self.now in
+    let x = c.in-Some.store in
+    let address = (c.is_one_address.ensures t known.tables.events).0 c.if-is_one_address.true in
+    let is : c.args.source ≡ suc x = omega (arith, c.in-Some.ensures.0, c.in-Some.ensures.1) in
+    known_taken t steps c.args.load c.args.source k c.note.new.table x is c.note.ensures (index_below t k known.tables x (address.0, address.2)) swap address known
 
-pub returns-then-load-len : goal.returns-then-load-len
-returns-then-load-len c = λ t steps known.
-    first_taker_noted t steps c.args.load c.args.source c.args.self.now c.set-then-load-len.new.table _ (no_predecessor c.args.source c.checked_sub.result c.in_default.is c.checked_sub.ensures)
-    c.set-then-load-len.ensures known
+pub returns-else-is_one_address : goal.returns-else-is_one_address
+returns-else-is_one_address c = λ t steps known swap below.
+    let k = c.args.self.now in
+    let x = c.in-Some.store in
+    let is : c.args.source ≡ suc x = omega (arith, c.in-Some.ensures.0, c.in-Some.ensures.1) in
+    known_untaken t steps c.args.load c.args.source k
+    (λ y same swapped address.
+    let one : y ≡ x = omega (arith, is, same) in
+    not_so c.is_one_address.result (SameAddress t (suc x) (suc c.args.load)) (c.is_one_address.ensures t known.tables.events) c.if-is_one_address.false
+    (subst (λ n. SameAddress t (suc n) (suc c.args.load)) one address))
+    (λ zero swapped. omega (arith, is, zero)) known
+
+pub returns-in-None : goal.returns-in-None
+returns-in-None c = λ t steps known swap below.
+    let zero : c.args.source ≡ 0 = omega (arith, c.in-None.ensures) in
+    subst (λ n. IsKnownBy t (steps ++ Read (suc c.args.load) n ∷ []) c.note_first_taker.new.self) (sym zero)
+    (c.note_first_taker.ensures t steps (subst (λ n. IsKnownFrom t (steps ++ Read (suc c.args.load) n ∷ []) steps c.args.self.now) zero known) swap below)

@@ -1,12 +1,15 @@
-use Rattle.std.proofs.Common.{◌≡◌, ◌∙◌, ap, sym, Some, None}
-use Rattle.std.specs.Prelude.{get_or}
-use Rattle.value_evidence.specs.Candidates.{known as gone_known}
-use Rattle.value_check.proofs.SettlingFacts.{other_source}
+use Rattle.std.proofs.Common.{◌≡◌, ◌∙◌, ap, sym, subst, suc, ℕ}
+use Rattle.std.specs.List.{Contains}
+use Rattle.value_evidence.specs.declared.steps.ValueStep.TheVariants.{Read}
+use Rattle.value_check.specs.declared.noted.Noted.{Noted}
+use Rattle.value_check.specs.Internal.Noted.{IsNotedOf, noted_at}
+use Rattle.value_check.proofs.NotedFacts.{noted_other}
 use Rattle.value_check.proofs.known.Known.read_another.Goals as goal
 
-pub returns-in-Some : goal.returns-in-Some
-returns-in-Some c = λ t steps known is.
-    let at : get_or c.args.self.now.sources.items c.args.load None ≡ Some c.in-Some.source =
-    ap (λ table. get_or table c.args.load None) (sym c.deref.ensures.value) ∙ sym c.entry.ensures ∙ c.in-Some.is in
-    gone_known c.in-Some.source (known.sources c.args.load c.in-Some.source at)
-    (other_source c.in-Some.source c.checked_sub.result c.args.store c.checked_sub.ensures (sym c.ne.ensures ∙ is))
+pub returns : goal.returns
+returns c = λ t steps known below.
+    let k = c.args.self.now in
+    let at : c.noted_at.result ≡ noted_at k.sources.items c.args.load = c.noted_at.ensures ∙ ap (λ table. noted_at table c.args.load) c.deref.ensures.value in
+    let noted = subst (λ (x : Noted). IsNotedOf x (λ (s : ℕ). Contains steps (Read (suc c.args.load) s))) (sym at) (known.sources c.args.load below) in
+    let other = noted_other c.noted_at.result (λ (s : ℕ). Contains steps (Read (suc c.args.load) s)) c.args.number noted in
+    (λ is. other.0 (c.has_other.ensures.0 is), λ some. c.has_other.ensures.1 (other.1 some))
