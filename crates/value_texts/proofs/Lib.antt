@@ -1,0 +1,9 @@
+pub mod DistinctFacts
+pub mod FaultFacts
+pub mod LineFacts
+pub mod NameFacts
+pub mod PositionFacts
+pub mod PrintFacts
+pub mod PrintedFacts
+pub mod ReadNameFacts
+pub mod SpellingFacts
