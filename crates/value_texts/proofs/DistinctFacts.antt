@@ -11,7 +11,7 @@ use Rattle.value_evidence.specs.declared.steps.ValueStep.TheVariants.{Read, In, 
 use Rattle.value_evidence.specs.declared.steps.ValueEnd.{ValueEnd}
 use Rattle.value_evidence.specs.declared.steps.ValueEnd.TheVariants.{NoSource, Cycle}
 use Rattle.value_texts.specs.declared.names.EventName.{EventName}
-use Rattle.value_texts.specs.Names.{name_text, name_of_event, IsNumbered, AreDistinct, NamesFit}
+use Rattle.value_texts.specs.Names.{event_name_text, name_of_event, IsNumbered, AreNamesDistinct, NamesFit}
 use Rattle.value_texts.specs.Printed.{EvidenceValue, event_token, value_evidence_text, OfEachEvent, OfEndEvent, OfAllEvents}
 use Rattle.value_texts.specs.Spelling.{has_token, event_named, IsNamed, SpellsValueEvidence}
 use Rattle.value_texts.specs.Internal.Names.{IsNameable}
@@ -41,7 +41,7 @@ all_from P Q from e holds = (λ k d low. each_from P Q from (get_or e.steps k d)
 
 -- ---- names
 
-module _ (names : List EventName) (distinct : AreDistinct names) where
+module _ (names : List EventName) (distinct : AreNamesDistinct names) where
   -- a name before that of the event is another
   other_before : (n k : ℕ) → IsNameable names n → suc k < n → has_token (event_token names n) (name_of_event names (suc k)) ≡ false
   other_before n k named low = by (has_token (event_token names n) (name_of_event names (suc k))) refl
@@ -49,9 +49,9 @@ module _ (names : List EventName) (distinct : AreDistinct names) where
       by : (b : Bool) → has_token (event_token names n) (name_of_event names (suc k)) ≡ b → has_token (event_token names n) (name_of_event names (suc k)) ≡ false
       by false is = is
       by true is =
-          let parts = and_parts (nat_lt (name_of_event names (suc k)).line (2 ^ 64)) (bytes_eq (name_text (name_of_event names (suc k))) (event_token names n)) is in
+          let parts = and_parts (nat_lt (name_of_event names (suc k)).line (2 ^ 64)) (bytes_eq (event_name_text (name_of_event names (suc k))) (event_token names n)) is in
           let fits : (name_of_event names (suc k)).line < 2 ^ 64 = (let t = parts.0 in grind (arith, nat_tests)) in
-          let same = one_name (name_of_event names (suc k)) (name_of_event names n) fits named.1 ((bytes_eq-Decides (name_text (name_of_event names (suc k))) (event_token names n)).0 parts.1) in
+          let same = one_name (name_of_event names (suc k)) (name_of_event names n) fits named.1 ((bytes_eq-Decides (event_name_text (name_of_event names (suc k))) (event_token names n)).0 parts.1) in
           let one : suc k ≡ n = distinct (suc k) n (let high = named.0.1 in (omega arith, omega (arith, low, high))) named.0 same in
           absurd (omega (arith, low, one))
 
@@ -72,7 +72,7 @@ module _ (names : List EventName) (distinct : AreDistinct names) where
   pub spelled_once : (e : EvidenceValue) → OfAllEvents (IsNameable names) e → SpellsValueEvidence names (value_evidence_text names e) e
   spelled_once e named = (all_from (IsNameable names) (IsNamed names) named_once e named, refl)
 
-pub printed_spells : (names : List EventName) (e : EvidenceValue) → AreDistinct names → NamesFit names → OfAllEvents (IsNumbered names) e → SpellsValueEvidence names (value_evidence_text names e) e
+pub printed_spells : (names : List EventName) (e : EvidenceValue) → AreNamesDistinct names → NamesFit names → OfAllEvents (IsNumbered names) e → SpellsValueEvidence names (value_evidence_text names e) e
 printed_spells names e distinct fit numbered =
     spelled_once names distinct e
     (all_from (IsNumbered names) (IsNameable names) (λ n range. (range, fit (n - 1) (record { line = 0; is_swap_store = false }) (omega (arith, range.0, range.1)))) e numbered)

@@ -1,6 +1,8 @@
 pub mod DistinctFacts
 pub mod FaultFacts
+pub mod HalfFacts
 pub mod LineFacts
+pub mod LogNameFacts
 pub mod NameFacts
 pub mod PositionFacts
 pub mod PrintFacts

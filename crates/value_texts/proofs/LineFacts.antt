@@ -19,8 +19,8 @@ use Rattle.value_texts.specs.declared.lines.Line.TheVariants.{Step, End}
 use Rattle.value_texts.specs.declared.names.EventName.{EventName}
 use Rattle.value_texts.specs.declared.words.Word.{Word}
 use Rattle.value_texts.specs.declared.words.Word.TheVariants as words
-use Rattle.value_texts.specs.Names.{name_text, name_of_event}
-use Rattle.value_texts.specs.Printed.{event_token, source_token, step_tokens, end_tokens, OfEachEvent, OfEndEvent}
+use Rattle.value_texts.specs.Names.{event_name_text, name_of_event}
+use Rattle.value_texts.specs.Printed.{event_token, source_token, value_step_tokens, value_end_tokens, OfEachEvent, OfEndEvent}
 use Rattle.value_texts.specs.Spelling.{has_token, event_named, IsNamed}
 use Rattle.value_texts.specs.Internal.LineValues.{word_token, all_words, word_of, or_no_event, event_said, source_said, one_said, pair_said, three_said, read_said, word_said, known_said, value_line_said}
 use Rattle.value_texts.proofs.NameFacts.{has_prime}
@@ -67,10 +67,10 @@ word_read words.Cycle = refl
 -- ---- the names of events
 
 -- digits and a prime are no word of letters
-pub name_differs : (name : EventName) (word : List ℕ) → list_all is_ascii_digit word ≡ false → has_byte 39 word ≡ false → bytes_eq (name_text name) word ≡ false
-name_differs name word letters none = ⊎_elim (λ (same : bytes_eq (name_text name) word ≡ true). absurd (by name.is_swap_store refl ((bytes_eq-Decides (name_text name) word).0 same))) (λ (other : bytes_eq (name_text name) word ≡ false). other) (cases (bytes_eq (name_text name) word))
+pub name_differs : (name : EventName) (word : List ℕ) → list_all is_ascii_digit word ≡ false → has_byte 39 word ≡ false → bytes_eq (event_name_text name) word ≡ false
+name_differs name word letters none = ⊎_elim (λ (same : bytes_eq (event_name_text name) word ≡ true). absurd (by name.is_swap_store refl ((bytes_eq-Decides (event_name_text name) word).0 same))) (λ (other : bytes_eq (event_name_text name) word ≡ false). other) (cases (bytes_eq (event_name_text name) word))
   where
-    by : (b : Bool) → name.is_swap_store ≡ b → name_text name ≡ word → ⊥
+    by : (b : Bool) → name.is_swap_store ≡ b → event_name_text name ≡ word → ⊥
     by true half is = let e : decimal name.line ++ 39 ∷ [] ≡ word = rw half at is in false≢true (sym none ∙ ap (has_byte 39) (sym e) ∙ has_prime (decimal name.line))
     by false half is =
         let e : decimal name.line ++ [] ≡ word = rw half at is in
@@ -93,9 +93,9 @@ module _ (names : List EventName) where
       let d : EventName = record { line = 0; is_swap_store = false } in
       let found = named_ok (event_named names token) n e in
       let at = found_at (has_token token) 1 n names d found in
-      let test = and_parts (nat_lt (get_or names at.0 d).line (2 ^ 64)) (bytes_eq (name_text (get_or names at.0 d)) token) at.2.passes in
+      let test = and_parts (nat_lt (get_or names at.0 d).line (2 ^ 64)) (bytes_eq (event_name_text (get_or names at.0 d)) token) at.2.passes in
       let place : at.0 ≡ n - 1 = omega (arith, at.1) in
-      let says : token ≡ event_token names n = sym ((bytes_eq-Decides (name_text (get_or names at.0 d)) token).0 test.1) ∙ ap (λ j. name_text (get_or names j d)) place in
+      let says : token ≡ event_token names n = sym ((bytes_eq-Decides (event_name_text (get_or names at.0 d)) token).0 test.1) ∙ ap (λ j. event_name_text (get_or names j d)) place in
       record { says = says; named = ap (event_named names) (sym says) ∙ found; above = (at.0, omega (arith, at.1)) }
 
   event_read : (n : ℕ) → IsNamed names n → event_said names (event_token names n) ≡ Ok n
@@ -123,8 +123,8 @@ module _ (names : List EventName) where
 
 -- the tokens of what a line says, whose events are named
 abbrev pub said_tokens : List EventName → Line → List (List ℕ)
-said_tokens names (Step s) = step_tokens names s
-said_tokens names (End e) = end_tokens names e
+said_tokens names (Step s) = value_step_tokens names s
+said_tokens names (End e) = value_end_tokens names e
 
 abbrev pub SaidNamed : List EventName → Line → Type 0
 SaidNamed names (Step s) = OfEachEvent (IsNamed names) s

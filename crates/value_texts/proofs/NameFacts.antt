@@ -12,7 +12,7 @@ use Rattle.line_text.specs.Numbers.{number}
 use Rattle.line_text.proofs.NumberFacts.{and_parts, number-decimal}
 use Rattle.line_text.proofs.SplitFacts.{has_byte, decimal_without}
 use Rattle.value_texts.specs.declared.names.EventName.{EventName}
-use Rattle.value_texts.specs.Names.{name_text}
+use Rattle.value_texts.specs.Names.{event_name_text}
 use Rattle.value_texts.specs.Spelling.{has_token, event_named}
 use Rattle.value_texts.specs.Internal.Tables.{name_key, same_key, number_of_key, HasNumbers}
 use Rattle.value_texts.proofs.PositionFacts.{push-some, push-none, position_from-same, position_from-none}
@@ -35,7 +35,7 @@ same_fields : (m n : EventName) → m.line ≡ n.line → m.is_swap_store ≡ n.
 same_fields m n line half = λ i. record { line = line i; is_swap_store = half i }
 
 -- one text, one name
-pub one_name : (m n : EventName) → m.line < 2 ^ 64 → n.line < 2 ^ 64 → name_text m ≡ name_text n → m ≡ n
+pub one_name : (m n : EventName) → m.line < 2 ^ 64 → n.line < 2 ^ 64 → event_name_text m ≡ event_name_text n → m ≡ n
 one_name m n low high is = by m.is_swap_store n.is_swap_store refl refl
   where
     same : m.line ≡ n.line → m.is_swap_store ≡ n.is_swap_store → m ≡ n
@@ -83,40 +83,40 @@ name_of_key m n is = by m.is_swap_store n.is_swap_store refl refl
     by true false p q = absurd (let e : 1 ≡ 0 = rw (p, q) at halves in omega (arith, e))
 
 -- the key of a name that a token spells is that of the names that have the token
-token_key : (token : List ℕ) (n m : EventName) → token ≡ name_text n → n.line < 2 ^ 64 → has_token token m ≡ same_key (name_key n) (name_key m)
+token_key : (token : List ℕ) (n m : EventName) → token ≡ event_name_text n → n.line < 2 ^ 64 → has_token token m ≡ same_key (name_key n) (name_key m)
 token_key token n m is low = by (has_token token m) (same_key (name_key n) (name_key m)) refl refl
   where
     by : (a b : Bool) → has_token token m ≡ a → same_key (name_key n) (name_key m) ≡ b → has_token token m ≡ same_key (name_key n) (name_key m)
     by true true p q = p ∙ sym q
     by false false p q = p ∙ sym q
     by true false p q =
-        let parts = and_parts (nat_lt m.line (2 ^ 64)) (bytes_eq (name_text m) token) p in
+        let parts = and_parts (nat_lt m.line (2 ^ 64)) (bytes_eq (event_name_text m) token) p in
         let fits : m.line < 2 ^ 64 = (let t = parts.0 in grind (arith, nat_tests)) in
-        let same : m ≡ n = one_name m n fits low ((bytes_eq-Decides (name_text m) token).0 parts.1 ∙ is) in
+        let same : m ≡ n = one_name m n fits low ((bytes_eq-Decides (event_name_text m) token).0 parts.1 ∙ is) in
         absurd (false≢true (sym q ∙ ap (λ o. same_key (name_key n) (name_key o)) same ∙ same_key-refl (name_key n)))
     by false true p q =
         let same : n ≡ m = name_of_key n m (key_is (name_key n) (name_key m) q) in
         let test : nat_lt n.line (2 ^ 64) ≡ true = grind (arith, nat_tests) in
-        let text : bytes_eq (name_text n) token ≡ true = (bytes_eq-Decides (name_text n) token).1 (sym is) in
+        let text : bytes_eq (event_name_text n) token ≡ true = (bytes_eq-Decides (event_name_text n) token).1 (sym is) in
         let on : has_token token n ≡ true = rw (test, text) refl in
         absurd (false≢true (sym p ∙ ap (has_token token) (sym same) ∙ on))
 
 -- the number that the token of a name has in the table
-pub number_named : (names : List EventName) (token : List ℕ) (n : EventName) → token ≡ name_text n → n.line < 2 ^ 64 → number_of_key names (name_key n) ≡ event_named names token
+pub number_named : (names : List EventName) (token : List ℕ) (n : EventName) → token ≡ event_name_text n → n.line < 2 ^ 64 → number_of_key names (name_key n) ≡ event_named names token
 unfolding event_named
 number_named names token n is low = sym (position_from-same (has_token token) (λ m. same_key (name_key n) (name_key m)) 1 names (λ m. token_key token n m is low))
 
 -- a token that spells no name has none
-pub number_unnamed : (names : List EventName) (token : List ℕ) → ((n : EventName) → n.line < 2 ^ 64 → token ≡ name_text n → ⊥) → event_named names token ≡ None
+pub number_unnamed : (names : List EventName) (token : List ℕ) → ((n : EventName) → n.line < 2 ^ 64 → token ≡ event_name_text n → ⊥) → event_named names token ≡ None
 unfolding event_named
 number_unnamed names token none = position_from-none (has_token token) 1 names (λ m. fails m (has_token token m) refl)
   where
     fails : (m : EventName) (b : Bool) → has_token token m ≡ b → has_token token m ≡ false
     fails m false is = is
     fails m true is =
-        let parts = and_parts (nat_lt m.line (2 ^ 64)) (bytes_eq (name_text m) token) is in
+        let parts = and_parts (nat_lt m.line (2 ^ 64)) (bytes_eq (event_name_text m) token) is in
         let fits : m.line < 2 ^ 64 = (let t = parts.0 in grind (arith, nat_tests)) in
-        absurd (none m fits (sym ((bytes_eq-Decides (name_text m) token).0 parts.1)))
+        absurd (none m fits (sym ((bytes_eq-Decides (event_name_text m) token).0 parts.1)))
 
 -- ---- the table
 

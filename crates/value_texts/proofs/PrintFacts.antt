@@ -14,17 +14,17 @@ use Rattle.tso_ops.specs.Values.{rows}
 use Rattle.value_evidence.specs.declared.steps.ValueStep.{ValueStep}
 use Rattle.value_texts.specs.declared.names.EventName.{EventName}
 use Rattle.value_texts.specs.Names.{names_in}
-use Rattle.value_texts.specs.Printed.{EvidenceValue, step_tokens, end_tokens, value_evidence_text}
+use Rattle.value_texts.specs.Printed.{EvidenceValue, value_step_tokens, value_end_tokens, value_evidence_text}
 
 -- the lines of steps, and the last line
-pub evidence-printed : {E : Type 0} (r : Result (Unit {0}) E) (names : List EventName) (e : EvidenceValue) (start stepped new : List ℕ) → stepped ≡ start ++ flat_map line_text (map (step_tokens names) e.steps) →
-    OnOk r (new ≡ stepped ++ line_text (end_tokens names e.end)) → OnOk r (new ≡ start ++ value_evidence_text names e)
+pub evidence-printed : {E : Type 0} (r : Result (Unit {0}) E) (names : List EventName) (e : EvidenceValue) (start stepped new : List ℕ) → stepped ≡ start ++ flat_map line_text (map (value_step_tokens names) e.steps) →
+    OnOk r (new ≡ stepped ++ line_text (value_end_tokens names e.end)) → OnOk r (new ≡ start ++ value_evidence_text names e)
 unfolding value_evidence_text
 evidence-printed (Ok u) names e start stepped new lines last =
-    let steps = map (step_tokens names) e.steps in
-    let line = line_text (end_tokens names e.end) in
+    let steps = map (value_step_tokens names) e.steps in
+    let line = line_text (value_end_tokens names e.end) in
     last ∙ ap (λ t. t ++ line) lines ∙ append_assoc start (flat_map line_text steps) line
-    ∙ ap (λ t. start ++ t) (ap (λ t. flat_map line_text steps ++ t) (sym (append-nil line)) ∙ sym (flat_map-append line_text steps (end_tokens names e.end ∷ [])))
+    ∙ ap (λ t. start ++ t) (ap (λ t. flat_map line_text steps ++ t) (sym (append-nil line)) ∙ sym (flat_map-append line_text steps (value_end_tokens names e.end ∷ [])))
 evidence-printed (Err why) names e start stepped new lines last = tt
 
 -- the names of one more list
@@ -38,15 +38,15 @@ list-named lists i row old new inside is before added =
 
 -- the lines of one more step
 pub step-printed : (names : List EventName) (P : ValueStep → Type 0) (start old new : List ℕ) (steps : List ValueStep) (k : ℕ) (s : ValueStep) → k < length steps → s ≡ get_or steps k s →
-    (old ≡ start ++ flat_map line_text (map (step_tokens names) (take k steps))) × All P (take k steps) → new ≡ old ++ line_text (step_tokens names s) → P s →
-    (new ≡ start ++ flat_map line_text (map (step_tokens names) (take (k + 1) steps))) × All P (take (k + 1) steps)
+    (old ≡ start ++ flat_map line_text (map (value_step_tokens names) (take k steps))) × All P (take k steps) → new ≡ old ++ line_text (value_step_tokens names s) → P s →
+    (new ≡ start ++ flat_map line_text (map (value_step_tokens names) (take (k + 1) steps))) × All P (take (k + 1) steps)
 step-printed names P start old new steps k s inside is before added holds =
     let more : take (k + 1) steps ≡ take k steps ++ s ∷ [] = take_more steps k s inside ∙ ap (λ r. take k steps ++ r ∷ []) (sym is) in
-    let done = flat_map line_text (map (step_tokens names) (take k steps)) in
-    let line = line_text (step_tokens names s) in
-    let pushed : flat_map line_text (map (step_tokens names) (take (k + 1) steps)) ≡ done ++ line =
-    ap (λ l. flat_map line_text (map (step_tokens names) l)) more ∙ ap (flat_map line_text) (map-append (step_tokens names) (take k steps) (s ∷ []))
-    ∙ flat_map-append line_text (map (step_tokens names) (take k steps)) (step_tokens names s ∷ []) ∙ ap (λ t. done ++ t) (append-nil line) in (
+    let done = flat_map line_text (map (value_step_tokens names) (take k steps)) in
+    let line = line_text (value_step_tokens names s) in
+    let pushed : flat_map line_text (map (value_step_tokens names) (take (k + 1) steps)) ≡ done ++ line =
+    ap (λ l. flat_map line_text (map (value_step_tokens names) l)) more ∙ ap (flat_map line_text) (map-append (value_step_tokens names) (take k steps) (s ∷ []))
+    ∙ flat_map-append line_text (map (value_step_tokens names) (take k steps)) (value_step_tokens names s ∷ []) ∙ ap (λ t. done ++ t) (append-nil line) in (
       added ∙ ap (λ t. t ++ line) before.0 ∙ append_assoc start done line ∙ ap (λ t. start ++ t) (sym pushed),
       subst (All P) (sym more) (All-push P (take k steps) s before.1 holds),
     )

@@ -10,7 +10,7 @@ use Rattle.value_evidence.specs.declared.steps.ValueEnd.TheVariants.{NoSource, C
 use Rattle.value_texts.specs.declared.lines.Line.{Line}
 use Rattle.value_texts.specs.declared.lines.Line.TheVariants.{Step, End}
 use Rattle.value_texts.specs.declared.names.EventName.{EventName}
-use Rattle.value_texts.specs.Names.{name_text, name_of_event}
+use Rattle.value_texts.specs.Names.{event_name_text, name_of_event}
 use Rattle.value_texts.specs.Printed.{event_token, source_token}
 use Rattle.value_texts.proofs.LineFacts.{said_tokens}
 
@@ -19,10 +19,10 @@ use Rattle.value_texts.proofs.LineFacts.{said_tokens}
 with_prime : (c : ℕ) (bytes : List ℕ) → IsBreak c → has_byte c bytes ≡ false → has_byte c (bytes ++ codes "'") ≡ false
 with_prime c bytes is none = list_any-append (λ b. eqb b c) bytes (codes "'") ∙ rw none (word_without c (codes "'") is refl refl)
 
-name_without : (c : ℕ) (name : EventName) → IsBreak c → has_byte c (name_text name) ≡ false
+name_without : (c : ℕ) (name : EventName) → IsBreak c → has_byte c (event_name_text name) ≡ false
 name_without c name is = by name.is_swap_store refl
   where
-    by : (b : Bool) → name.is_swap_store ≡ b → has_byte c (name_text name) ≡ false
+    by : (b : Bool) → name.is_swap_store ≡ b → has_byte c (event_name_text name) ≡ false
     by true half = rw half (with_prime c (decimal name.line) is (number_without c name.line is))
     by false half = rw (half, append-nil (decimal name.line)) (number_without c name.line is)
 

@@ -12,7 +12,7 @@ use Rattle.std.proofs.Math.Seq.{drop-append_seam}
 use Rattle.line_text.specs.Numbers.{number}
 use Rattle.line_text.proofs.NumberFacts.{number_is, number_fits, number-decimal}
 use Rattle.value_texts.specs.declared.names.EventName.{EventName}
-use Rattle.value_texts.specs.Names.{name_text}
+use Rattle.value_texts.specs.Names.{event_name_text}
 use Rattle.value_texts.specs.Internal.Tables.{name_key, same_key, HasNumbers}
 use Rattle.value_texts.proofs.NameFacts.{no_prime, numbers-kept, numbers-added}
 
@@ -42,7 +42,7 @@ no_number : (line : List ℕ) (n : ℕ) → n < 2 ^ 64 → number line ≡ None 
 no_number line n low none is = absurd (let s : None ≡ Some n = sym none ∙ ap number is ∙ number-decimal n low in cc)
 
 -- what isn't read is none
-pub unread-primed : (token line : List ℕ) (name : EventName) → token ≡ line ++ 39 ∷ [] → number line ≡ None → name.line < 2 ^ 64 → token ≡ name_text name → ⊥
+pub unread-primed : (token line : List ℕ) (name : EventName) → token ≡ line ++ 39 ∷ [] → number line ≡ None → name.line < 2 ^ 64 → token ≡ event_name_text name → ⊥
 unread-primed token line name is none low same = by name.is_swap_store refl
   where
     by : (b : Bool) → name.is_swap_store ≡ b → ⊥
@@ -53,7 +53,7 @@ unread-primed token line name is none low same = by name.is_swap_store refl
         let e : token ≡ decimal name.line ++ [] = rw half at same in
         no_prime name.line line (sym (append-nil (decimal name.line)) ∙ sym e ∙ is)
 
-pub unread-plain : (token prime : List ℕ) (name : EventName) → prime ≡ 39 ∷ [] → bytes_eq (drop (length token - length prime) token) prime ≡ false → number token ≡ None → name.line < 2 ^ 64 → token ≡ name_text name → ⊥
+pub unread-plain : (token prime : List ℕ) (name : EventName) → prime ≡ 39 ∷ [] → bytes_eq (drop (length token - length prime) token) prime ≡ false → number token ≡ None → name.line < 2 ^ 64 → token ≡ event_name_text name → ⊥
 unread-plain token prime name quote ends none low same = by name.is_swap_store refl
   where
     by : (b : Bool) → name.is_swap_store ≡ b → ⊥

@@ -19,7 +19,7 @@ use Rattle.value_texts.specs.declared.names.EventName.{EventName}
 use Rattle.value_texts.specs.declared.refusals.ValueTextFault.{ValueTextFault}
 use Rattle.value_texts.specs.declared.refusals.ValueTextRefusal.{ValueTextRefusal}
 use Rattle.value_texts.specs.declared.refusals.ValueTextRefusal.TheVariants.{BadLine, NoEvent, NoEnd, AfterEnd, OutOfMemory}
-use Rattle.value_texts.specs.Printed.{EvidenceValue, evidence_value, step_tokens, end_tokens, value_evidence_text, OfEachEvent, OfAllEvents}
+use Rattle.value_texts.specs.Printed.{EvidenceValue, evidence_value, value_step_tokens, value_end_tokens, value_evidence_text, OfEachEvent, OfAllEvents}
 use Rattle.value_texts.specs.Spelling.{IsNamed, SpellsValueEvidence, IsValueTextRefusal, IsValueLineFault}
 use Rattle.value_texts.specs.Internal.LineValues.{value_line_said}
 use Rattle.value_texts.specs.Internal.ReadTexts.{unended_value_fault, said_after, value_reading, value_answer}
@@ -31,7 +31,7 @@ module _ (names : List EventName) where
   abbrev pub value_texts : TextsOf ValueStep EvidenceValue ValueTextRefusal
   value_texts = record {
     Fits = OfEachEvent (IsNamed names);
-    lines = λ steps. map (step_tokens names) steps;
+    lines = λ steps. map (value_step_tokens names) steps;
     Is = OfAllEvents (IsNamed names);
     Ends = OfAllEvents (IsNamed names);
     text = value_evidence_text names;
@@ -53,10 +53,10 @@ module _ (names : List EventName) where
       by (Err why) is = λ rest line after some parts same. (let p = split_parts (λ b. eqb b 10) after in rw (parts, p.2) (subst (λ ps. IsValueLineFault names ps why) (sym same) (refused names tokens why is)))
       by (Ok (Step s)) is =
           let t = told names tokens (Step s) is in
-          (cut (Step s) is, t.named, map-append (step_tokens names) steps (s ∷ []) ∙ ap (λ ps. map (step_tokens names) steps ++ ps ∷ []) (sym t.says))
+          (cut (Step s) is, t.named, map-append (value_step_tokens names) steps (s ∷ []) ∙ ap (λ ps. map (value_step_tokens names) steps ++ ps ∷ []) (sym t.says))
       by (Ok (End e)) is =
           let t = told names tokens (End e) is in
-          (cut (End e) is, λ named. ((named, t.named), (named, t.named), ap (λ ps. flat_map line_text (map (step_tokens names) steps ++ ps ∷ [])) (sym t.says)))
+          (cut (End e) is, λ named. ((named, t.named), (named, t.named), ap (λ ps. flat_map line_text (map (value_step_tokens names) steps ++ ps ∷ [])) (sym t.says)))
 
   refused_read : (steps : List ValueStep) (rest : List ℕ) (why : ValueTextRefusal) → ArePartsRefused NoEnd BadLine (IsValueLineFault names) (parts_of rest) why → read_parts (value_reading names) steps (parts_of rest) ≡ Err (suc (length steps), why)
   unfolding read_parts
@@ -68,7 +68,7 @@ module _ (names : List EventName) where
       by (part ∷ next ∷ parts) refused = rw (fault_said names (tokens_of part) why refused) refl
 
   said_last : (e : EvidenceValue) → OfAllEvents (IsNamed names) e → (steps : List ValueStep) × (tokens : List (List ℕ)) × All (OfEachEvent (IsNamed names)) steps × ((value_reading names).said steps tokens ≡ Ok (whole e))
-  said_last e named = (e.steps, end_tokens names e.end, named.0, said_line e.steps (end_tokens names e.end) _ (said-tokens names (End e.end) named.1))
+  said_last e named = (e.steps, value_end_tokens names e.end, named.0, said_line e.steps (value_end_tokens names e.end) _ (said-tokens names (End e.end) named.1))
 
   pub are_read : AreReadBy value_texts (value_reading names)
   are_read = record {
@@ -76,7 +76,7 @@ module _ (names : List EventName) where
     line = line;
     unended = λ steps rest e named is. absurd cc;
     missing = λ steps rest why none is. rw none (let same : unended_value_fault rest ≡ why = cc in sym same);
-    said_one = λ steps s named. (step_tokens names s, said_line steps _ _ (said-tokens names (Step s) named));
+    said_one = λ steps s named. (value_step_tokens names s, said_line steps _ _ (said-tokens names (Step s) named));
     said_last = said_last;
     said_all = λ e named. inl named;
     refused = refused_read;

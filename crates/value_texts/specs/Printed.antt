@@ -8,7 +8,7 @@ use Rattle.value_evidence.specs.declared.steps.ValueEnd.{ValueEnd}
 use Rattle.value_evidence.specs.declared.steps.ValueEnd.TheVariants.{NoSource, Cycle}
 use Rattle.value_evidence.specs.declared.steps.ValueEvidence.{ValueEvidence}
 use Rattle.value_texts.specs.declared.names.EventName.{EventName}
-use Rattle.value_texts.specs.Names.{name_text, name_of_event}
+use Rattle.value_texts.specs.Names.{event_name_text, name_of_event}
 
 -- what contracts see of evidence: its steps, and how they end
 pub record EvidenceValue : Type 0 where
@@ -22,7 +22,7 @@ evidence_value e = record { steps = e.steps.items; end = e.end }
 
 -- the token of an event
 abbrev pub event_token : List EventName → ℕ → List ℕ
-event_token names n = name_text (name_of_event names n)
+event_token names n = event_name_text (name_of_event names n)
 
 -- that of a source: `init` of the first value
 abbrev pub source_token : List EventName → ℕ → List ℕ
@@ -30,22 +30,22 @@ source_token names zero = codes "init"
 source_token names (suc n) = event_token names (suc n)
 
 -- the tokens of a step's line
-abbrev pub step_tokens : List EventName → ValueStep → List (List ℕ)
-step_tokens names (Read load source) = codes "read" ∷ event_token names load ∷ source_token names source ∷ []
-step_tokens names (In from load) = codes "in" ∷ event_token names from ∷ event_token names load ∷ []
-step_tokens names (Out load to) = codes "out" ∷ event_token names load ∷ event_token names to ∷ []
-step_tokens names (Over from to load) = codes "over" ∷ event_token names from ∷ event_token names to ∷ event_token names load ∷ []
-step_tokens names (SwapAfter swap to) = codes "after" ∷ event_token names swap ∷ event_token names to ∷ []
-step_tokens names (SwapBefore from swap) = codes "before" ∷ event_token names from ∷ event_token names swap ∷ []
+abbrev pub value_step_tokens : List EventName → ValueStep → List (List ℕ)
+value_step_tokens names (Read load source) = codes "read" ∷ event_token names load ∷ source_token names source ∷ []
+value_step_tokens names (In from load) = codes "in" ∷ event_token names from ∷ event_token names load ∷ []
+value_step_tokens names (Out load to) = codes "out" ∷ event_token names load ∷ event_token names to ∷ []
+value_step_tokens names (Over from to load) = codes "over" ∷ event_token names from ∷ event_token names to ∷ event_token names load ∷ []
+value_step_tokens names (SwapAfter swap to) = codes "after" ∷ event_token names swap ∷ event_token names to ∷ []
+value_step_tokens names (SwapBefore from swap) = codes "before" ∷ event_token names from ∷ event_token names swap ∷ []
 
 -- the tokens of the last line
-abbrev pub end_tokens : List EventName → ValueEnd → List (List ℕ)
-end_tokens names (NoSource load) = codes "nosource" ∷ event_token names load ∷ []
-end_tokens names (Cycle n) = codes "cycle" ∷ event_token names n ∷ []
+abbrev pub value_end_tokens : List EventName → ValueEnd → List (List ℕ)
+value_end_tokens names (NoSource load) = codes "nosource" ∷ event_token names load ∷ []
+value_end_tokens names (Cycle n) = codes "cycle" ∷ event_token names n ∷ []
 
 -- the text of evidence: a line for each step, and the last line
 unfoldable pub value_evidence_text : List EventName → EvidenceValue → List ℕ
-value_evidence_text names e = flat_map line_text (map (step_tokens names) e.steps ++ end_tokens names e.end ∷ [])
+value_evidence_text names e = flat_map line_text (map (value_step_tokens names) e.steps ++ value_end_tokens names e.end ∷ [])
 
 -- ---- the numbers of evidence
 

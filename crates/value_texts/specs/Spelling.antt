@@ -9,12 +9,12 @@ use Rattle.value_evidence.specs.declared.steps.ValueEnd.{ValueEnd}
 use Rattle.value_texts.specs.declared.names.EventName.{EventName}
 use Rattle.value_texts.specs.declared.refusals.ValueTextRefusal.{ValueTextRefusal}
 use Rattle.value_texts.specs.declared.refusals.ValueTextRefusal.TheVariants.{BadLine, NoEvent, NoEnd, AfterEnd}
-use Rattle.value_texts.specs.Names.{name_text}
-use Rattle.value_texts.specs.Printed.{EvidenceValue, event_token, step_tokens, end_tokens, value_evidence_text, OfEachEvent, OfEndEvent, OfAllEvents}
+use Rattle.value_texts.specs.Names.{event_name_text}
+use Rattle.value_texts.specs.Printed.{EvidenceValue, event_token, value_step_tokens, value_end_tokens, value_evidence_text, OfEachEvent, OfEndEvent, OfAllEvents}
 
 -- the token is this name, of a line whose number 64 bits hold
 abbrev pub has_token : List ℕ → EventName → Bool
-has_token token name = nat_lt name.line (2 ^ 64) && bytes_eq (name_text name) token
+has_token token name = nat_lt name.line (2 ^ 64) && bytes_eq (event_name_text name) token
 
 -- the number of the first event that the token names
 unfoldable pub event_named : List EventName → List ℕ → Option ℕ
@@ -43,8 +43,8 @@ has_value_form tokens = list_any (λ form. bytes_eq (get_or tokens 0 []) form.0 
 abbrev pub IsValueLineFault : List EventName → List (List ℕ) → ValueTextRefusal → Type 0
 IsValueLineFault names tokens BadLine = has_value_form tokens ≡ false
 IsValueLineFault names tokens NoEvent =
-    (has_value_form tokens ≡ true) × ((s : ValueStep) → OfEachEvent (IsNamed names) s → tokens ≡ step_tokens names s → ⊥)
-    × ((e : ValueEnd) → OfEndEvent (IsNamed names) e → tokens ≡ end_tokens names e → ⊥)
+    (has_value_form tokens ≡ true) × ((s : ValueStep) → OfEachEvent (IsNamed names) s → tokens ≡ value_step_tokens names s → ⊥)
+    × ((e : ValueEnd) → OfEndEvent (IsNamed names) e → tokens ≡ value_end_tokens names e → ⊥)
 IsValueLineFault names tokens _ = ⊥
 
 -- ---- texts
@@ -53,7 +53,7 @@ IsValueLineFault names tokens _ = ⊥
 unfoldable pub IsValueTextRefusal : List EventName → List ℕ → ℕ → ValueTextRefusal → Type 0
 IsValueTextRefusal names text line why =
     ((steps : List ValueStep) × All (OfEachEvent (IsNamed names)) steps
-    × IsRefusedAfter text (flat_map line_text (map (step_tokens names) steps)) line (λ rest. ArePartsRefused NoEnd BadLine (IsValueLineFault names) (parts_of rest) why))
+    × IsRefusedAfter text (flat_map line_text (map (value_step_tokens names) steps)) line (λ rest. ArePartsRefused NoEnd BadLine (IsValueLineFault names) (parts_of rest) why))
     ⊎ ((e : EvidenceValue) × OfAllEvents (IsNamed names) e × IsRefusedAfter text (value_evidence_text names e) line (λ rest. (rest ≢ []) × (why ≡ AfterEnd)))
 
 -- some evidence, some refusal

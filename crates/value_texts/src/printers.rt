@@ -1,8 +1,8 @@
 ghost use Rattle.std.specs.Prelude.{◌≡◌, ◌<◌, ◌^◌, ◌++◌, [], ◌∷◌, All, List, map, string_bytes, IfErr, OnOk};
 ghost use Rattle.std.specs.List.{flat_map};
 ghost use Rattle.line_text.specs.Lines.{line_text};
-ghost use Rattle.value_texts.specs.Names.{AreDistinct, IsNumbered, name_text};
-ghost use Rattle.value_texts.specs.Printed.{evidence_value, event_token, source_token, step_tokens, end_tokens, value_evidence_text, OfEachEvent, OfEndEvent, OfAllEvents};
+ghost use Rattle.value_texts.specs.Names.{AreNamesDistinct, IsNumbered, event_name_text};
+ghost use Rattle.value_texts.specs.Printed.{evidence_value, event_token, source_token, value_step_tokens, value_end_tokens, value_evidence_text, OfEachEvent, OfEndEvent, OfAllEvents};
 ghost use Rattle.value_texts.specs.Spelling.{SpellsValueEvidence};
 ghost use Rattle.value_texts.specs.declared.refusals.ValuePrintRefusal.{ValuePrintRefusal};
 ghost use Rattle.value_texts.specs.Internal.LineValues.{word_token};
@@ -27,7 +27,7 @@ pub fn print_value_evidence(
 ) -> Result<(), ValuePrintRefusal>
     ensures lines { OnOk result (string_bytes text.new ≡ string_bytes text.old ++ value_evidence_text names.now (evidence_value evidence.now)) }
     ensures numbered { OnOk result (OfAllEvents (IsNumbered names.now) (evidence_value evidence.now)) }
-    ensures spells { OnOk result (AreDistinct names.now →
+    ensures spells { OnOk result (AreNamesDistinct names.now →
         SpellsValueEvidence names.now (value_evidence_text names.now (evidence_value evidence.now)) (evidence_value evidence.now)) }
     ensures refused { IfErr result (λ why. why ≡ ValuePrintRefusal.NoEvent → OfAllEvents (IsNumbered names.now) (evidence_value evidence.now) → ⊥) }
 {
@@ -41,7 +41,7 @@ fn print_steps(
     names: &[EventName],
     steps: &[ValueStep],
 ) -> Result<(), ValuePrintRefusal>
-    ensures lines { OnOk result (string_bytes text.new ≡ string_bytes text.old ++ flat_map line_text (map (step_tokens names.now) steps.now)) }
+    ensures lines { OnOk result (string_bytes text.new ≡ string_bytes text.old ++ flat_map line_text (map (value_step_tokens names.now) steps.now)) }
     ensures nameable { OnOk result (All (OfEachEvent (IsNameable names.now)) steps.now) }
     ensures refused { IfErr result (λ why. why ≡ ValuePrintRefusal.NoEvent → All (OfEachEvent (IsNumbered names.now)) steps.now → ⊥) }
 {
@@ -57,7 +57,7 @@ fn print_step(
     names: &[EventName],
     step: ValueStep,
 ) -> Result<(), ValuePrintRefusal>
-    ensures line { OnOk result (string_bytes text.new ≡ string_bytes text.old ++ line_text (step_tokens names.now step)) }
+    ensures line { OnOk result (string_bytes text.new ≡ string_bytes text.old ++ line_text (value_step_tokens names.now step)) }
     ensures nameable { OnOk result (OfEachEvent (IsNameable names.now) step) }
     ensures refused { IfErr result (λ why. why ≡ ValuePrintRefusal.NoEvent → OfEachEvent (IsNumbered names.now) step → ⊥) }
 {
@@ -73,7 +73,7 @@ fn print_step(
 
 /// Appends the last line.
 fn print_end(text: &mut String, names: &[EventName], end: ValueEnd) -> Result<(), ValuePrintRefusal>
-    ensures line { OnOk result (string_bytes text.new ≡ string_bytes text.old ++ line_text (end_tokens names.now end)) }
+    ensures line { OnOk result (string_bytes text.new ≡ string_bytes text.old ++ line_text (value_end_tokens names.now end)) }
     ensures nameable { OnOk result (OfEndEvent (IsNameable names.now) end) }
     ensures refused { IfErr result (λ why. why ≡ ValuePrintRefusal.NoEvent → OfEndEvent (IsNumbered names.now) end → ⊥) }
 {
@@ -94,7 +94,7 @@ fn print_read(
     load: usize,
     source: usize,
 ) -> Result<(), ValuePrintRefusal>
-    ensures line { OnOk result (string_bytes text.new ≡ string_bytes text.old ++ line_text (step_tokens names.now (ValueStep.Read load source))) }
+    ensures line { OnOk result (string_bytes text.new ≡ string_bytes text.old ++ line_text (value_step_tokens names.now (ValueStep.Read load source))) }
     ensures nameable { OnOk result (OfEachEvent (IsNameable names.now) (ValueStep.Read load source)) }
     ensures refused { IfErr result (λ why. why ≡ ValuePrintRefusal.NoEvent → OfEachEvent (IsNumbered names.now) (ValueStep.Read load source) → ⊥) }
 {
@@ -137,7 +137,7 @@ fn print_over(
     to: usize,
     load: usize,
 ) -> Result<(), ValuePrintRefusal>
-    ensures line { OnOk result (string_bytes text.new ≡ string_bytes text.old ++ line_text (step_tokens names.now (ValueStep.Over from to load))) }
+    ensures line { OnOk result (string_bytes text.new ≡ string_bytes text.old ++ line_text (value_step_tokens names.now (ValueStep.Over from to load))) }
     ensures nameable { OnOk result (OfEachEvent (IsNameable names.now) (ValueStep.Over from to load)) }
     ensures refused { IfErr result (λ why. why ≡ ValuePrintRefusal.NoEvent → OfEachEvent (IsNumbered names.now) (ValueStep.Over from to load) → ⊥) }
 {
@@ -165,7 +165,7 @@ fn print_event(text: &mut String, names: &[EventName], n: usize) -> Result<(), V
 
 /// Appends a name.
 fn print_name(text: &mut String, name: EventName) -> Result<(), OutOfMemory>
-    ensures token { OnOk result (string_bytes text.new ≡ string_bytes text.old ++ name_text name) }
+    ensures token { OnOk result (string_bytes text.new ≡ string_bytes text.old ++ event_name_text name) }
     ensures fits { name.line < 2 ^ 64 }
 {
     write!(text, "{}", name.line)?;

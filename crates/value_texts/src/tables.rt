@@ -1,7 +1,7 @@
 //! The numbers of events by their names.
 ghost use Rattle.std.specs.Prelude.{◌≡◌, ◌^◌, ◌<◌, IfOk, IfSome, IfNone};
 ghost use Rattle.value_texts.specs.declared.names.EventName.{EventName};
-ghost use Rattle.value_texts.specs.Names.{name_text};
+ghost use Rattle.value_texts.specs.Names.{event_name_text};
 ghost use Rattle.value_texts.specs.Spelling.{event_named};
 ghost use Rattle.value_texts.specs.Internal.LineValues.{event_said, source_said};
 ghost use Rattle.value_texts.specs.Internal.Tables.{HasNumbers, name_key};
@@ -100,8 +100,8 @@ fn key_of(name: EventName) -> (usize, usize)
 
 /// The name that a token spells.
 fn read_name(token: &[u8]) -> Option<EventName>
-    ensures some { IfSome result (λ name. (token.now ≡ name_text name) × (name.line < 2 ^ 64)) }
-    ensures none { IfNone result ((name : EventName) → name.line < 2 ^ 64 → token.now ≡ name_text name → ⊥) }
+    ensures some { IfSome result (λ name. (token.now ≡ event_name_text name) × (name.line < 2 ^ 64)) }
+    ensures none { IfNone result ((name : EventName) → name.line < 2 ^ 64 → token.now ≡ event_name_text name → ⊥) }
 {
     match token.strip_suffix(b"'".as_slice()) {
         Some(line) => Some(EventName {
