@@ -12,6 +12,10 @@ use tso_cert::{Certificate, read_cert};
 use tso_evidence::{Evidence, read_evidence};
 use tso_ops::{OutOfMemory, Outcome, Program, Refused, Trace};
 use tso_text::{MAX_TEXT_BYTES, TextFault, Why, read_trace};
+use value_evidence::ValueEvidence;
+use value_texts::{
+    ValuePrintRefusal, ValueTextFault, names_of, print_value_evidence, read_value_evidence,
+};
 
 /// `tso_ops`: the trace of these lists of operations, one for each processor, or its refusal.
 pub fn trace_of_lists(alloc: Global, lists: Vec<Vec<Outcome>>) -> Result<Trace, Refused<Outcome>> {
@@ -87,4 +91,17 @@ pub fn next_of_a_stream<R: Read>(
 ) -> Result<Option<Vec<u8>>, Fault> {
     let text = texts.next(reader)?;
     Ok(text)
+}
+
+/// `value_texts`: evidence that is printed beside a log, and read back.
+pub fn evidence_read_back(
+    alloc: Global,
+    log: &Log,
+    evidence: &ValueEvidence,
+    text: &mut String,
+) -> Result<Result<ValueEvidence, ValueTextFault>, ValuePrintRefusal> {
+    let names = names_of(alloc, log)?;
+    print_value_evidence(text, &names, evidence)?;
+    let read = read_value_evidence(alloc, &names, text.as_bytes());
+    Ok(read)
 }

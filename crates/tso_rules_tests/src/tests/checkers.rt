@@ -1,7 +1,8 @@
-//! The checkers of certificates, of orders, of refutations and of evidence by values: long texts, refused allocations, and what faults display.
+//! The checkers of certificates, of orders, of refutations and of evidence by values, and its texts: long texts, refused allocations, and what faults display.
 //! `program-cases/` has short texts.
 
 mod faults;
 mod long;
 mod refused_allocations;
+mod value_lines;
 mod values;

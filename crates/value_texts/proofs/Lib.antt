@@ -1,0 +1,11 @@
+pub mod DistinctFacts
+pub mod FaultFacts
+pub mod HalfFacts
+pub mod LineFacts
+pub mod LogNameFacts
+pub mod NameFacts
+pub mod PositionFacts
+pub mod PrintFacts
+pub mod PrintedFacts
+pub mod ReadNameFacts
+pub mod SpellingFacts
