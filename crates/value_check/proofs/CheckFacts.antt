@@ -13,7 +13,7 @@ use Rattle.value_check.specs.declared.known.Known.{Known}
 use Rattle.value_check.specs.declared.refusals.ValueRefusal.{ValueRefusal}
 use Rattle.value_check.specs.declared.refusals.ValueRefusal.TheVariants.{StepRefused, EndRefused}
 use Rattle.value_check.specs.Internal.Known.{IsKnownBy}
-use Rattle.value_check.specs.Refusals.{IsFirstRefused, IsRefusedFor, StepsHoldBelow}
+use Rattle.value_check.specs.Refusals.{IsFirstRefusedStep, IsRefusalOfValues, StepsHoldBelow}
 
 module _ (t : TraceValue) (steps : List ValueStep) (k : ℕ) (x : ValueStep) (at : slice_get steps k ≡ Some x) where
   -- the steps up to one, and that
@@ -35,7 +35,7 @@ module _ (t : TraceValue) (steps : List ValueStep) (k : ℕ) (x : ValueStep) (at
       ]
 
   -- the first that doesn't
-  pub first_refused : StepsHoldBelow t steps k → (ValueStepHolds t (take k steps) x → ⊥) → IsFirstRefused t steps (k + 1)
+  pub first_refused : StepsHoldBelow t steps k → (ValueStepHolds t (take k steps) x → ⊥) → IsFirstRefusedStep t steps (k + 1)
   first_refused before fails = record { place = k; step = x; numbered = omega arith; there = at; before = before; refused = fails }
 
 module _ (t : TraceValue) (evidence : ValueEvidence) (k : ℕ) (whole : k ≡ length evidence.steps.items) (holds : StepsHoldBelow t evidence.steps.items k) where
@@ -52,10 +52,10 @@ module _ (t : TraceValue) (evidence : ValueEvidence) (k : ℕ) (whole : k ≡ le
   evidence_holds ends = record { steps = all_hold; ends = subst (λ all. EndHolds t all evidence.end) all_taken ends }
 
   -- or not the end
-  pub end_refused : (EndHolds t (take k evidence.steps.items) evidence.end → ⊥) → IsRefusedFor t evidence EndRefused
+  pub end_refused : (EndHolds t (take k evidence.steps.items) evidence.end → ⊥) → IsRefusalOfValues t evidence EndRefused
   end_refused fails = (all_hold, λ ends. fails (subst (λ all. EndHolds t all evidence.end) (sym all_taken) ends))
 
 -- evidence that is refused doesn't hold
-pub refused_fails : (t : TraceValue) (evidence : ValueEvidence) (refusal : ValueRefusal) → IsRefusedFor t evidence refusal → EvidenceHolds t evidence → ⊥
+pub refused_fails : (t : TraceValue) (evidence : ValueEvidence) (refusal : ValueRefusal) → IsRefusalOfValues t evidence refusal → EvidenceHolds t evidence → ⊥
 refused_fails t evidence (StepRefused number) is holds = is.refused (holds.steps is.place is.step is.there)
 refused_fails t evidence EndRefused is holds = is.1 holds.ends

@@ -12,7 +12,7 @@ abbrev pub StepsHoldBelow : TraceValue → List ValueStep → ℕ → Type 0
 StepsHoldBelow t steps k = (j : ℕ) (step : ValueStep) → j < k → slice_get steps j ≡ Some step → ValueStepHolds t (take j steps) step
 
 -- The step of this number, from 1, is the first that doesn't follow from those before it.
-pub record IsFirstRefused (t : TraceValue) (steps : List ValueStep) (number : ℕ) : Type 0 where
+pub record IsFirstRefusedStep (t : TraceValue) (steps : List ValueStep) (number : ℕ) : Type 0 where
   pub place : ℕ
   pub step : ValueStep
   pub numbered : number ≡ suc place
@@ -21,6 +21,6 @@ pub record IsFirstRefused (t : TraceValue) (steps : List ValueStep) (number : �
   pub refused : ValueStepHolds t (take place steps) step → ⊥
 
 -- the evidence is refused for this: its first step that doesn't follow, or else its end
-abbrev pub IsRefusedFor : TraceValue → ValueEvidence → ValueRefusal → Type 0
-IsRefusedFor t evidence (StepRefused number) = IsFirstRefused t evidence.steps.items number
-IsRefusedFor t evidence EndRefused = AllStepsHold t evidence.steps.items × (EndHolds t evidence.steps.items evidence.end → ⊥)
+abbrev pub IsRefusalOfValues : TraceValue → ValueEvidence → ValueRefusal → Type 0
+IsRefusalOfValues t evidence (StepRefused number) = IsFirstRefusedStep t evidence.steps.items number
+IsRefusalOfValues t evidence EndRefused = AllStepsHold t evidence.steps.items × (EndHolds t evidence.steps.items evidence.end → ⊥)

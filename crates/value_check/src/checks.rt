@@ -3,7 +3,7 @@ ghost use Rattle.std.specs.Prelude.{◌≡◌, IfOk, IfErr, OnOk};
 ghost use Rattle.log_text.specs.LogValues.{log_operations, log_value};
 ghost use Rattle.tso_model.specs.Axioms.{IsConsistent};
 ghost use Rattle.value_evidence.specs.Evidence.{EvidenceHolds};
-ghost use Rattle.value_check.specs.Refusals.{IsRefusedFor};
+ghost use Rattle.value_check.specs.Refusals.{IsRefusalOfValues};
 
 use crate::known::Known;
 use crate::refusals::ValueRefusal;
@@ -22,7 +22,7 @@ pub fn check_values(
     evidence: &ValueEvidence,
 ) -> Result<Result<(), ValueRefusal>, OutOfMemory>
     ensures holds { IfOk result (λ said. OnOk said (EvidenceHolds (log_operations (log_value log.now)) evidence.now)) }
-    ensures refused { IfOk result (λ said. IfErr said (IsRefusedFor (log_operations (log_value log.now)) evidence.now)) }
+    ensures refused { IfOk result (λ said. IfErr said (IsRefusalOfValues (log_operations (log_value log.now)) evidence.now)) }
     ensures accepted { IfOk result (λ said. EvidenceHolds (log_operations (log_value log.now)) evidence.now → said ≡ Ok tt) }
     ensures no_order { IfOk result (λ said. OnOk said (IsConsistent (log_operations (log_value log.now)) → ⊥)) }
 {
