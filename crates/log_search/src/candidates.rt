@@ -18,14 +18,13 @@ pub(crate) struct Part {
     near: u32,
 }
 
-/// A class: its parts, whether it has the first value, which a swap may have read, and when one last read something of it.
+/// A class: its parts, and whether it has the first value, which a swap may have read.
 #[derive(Clone, Copy)]
 struct Class {
     start: u32,
     end: u32,
     has_first: bool,
     is_first_taken: bool,
-    taken_at: u32,
 }
 
 /// The classes of the values that some load has.
@@ -88,7 +87,6 @@ impl Candidates {
                             end: 0,
                             has_first,
                             is_first_taken: false,
-                            taken_at: 0,
                         },
                     );
                 }
@@ -227,20 +225,14 @@ impl Candidates {
         part.near
     }
 
-    /// When a swap last read something of a load's class.
-    pub(crate) fn taken_at(&self, load: u32) -> u32 {
-        match self.class(load) {
-            Some(class) => class.taken_at,
-            None => 0,
-        }
+    /// The number of a load's class.
+    pub(crate) fn class_number(&self, load: u32) -> u32 {
+        item(&self.class_of, load)
     }
 
-    /// Notes when a swap read something of a load's class.
-    pub(crate) fn note_taken(&mut self, load: u32, time: u32) {
-        let class = item(&self.class_of, load);
-        if let Some(class) = self.classes.get_mut(class as usize) {
-            class.taken_at = time;
-        }
+    /// How many classes there are.
+    pub(crate) fn classes(&self) -> usize {
+        self.classes.len()
     }
 
     /// Whether a load can have read the first value by its value, if it is a swap's also by what other swaps read.
@@ -260,6 +252,15 @@ impl Candidates {
                 last.end.saturating_sub(begin.start).saturating_add(first)
             }
             _ => first,
+        }
+    }
+
+    /// The part of the one store that a load can have read by its value alone, if it can have read one alone.
+    pub(crate) fn only_part(&self, load: u32) -> Option<Part> {
+        let (start, end) = self.parts_of(load);
+        match self.part(start) {
+            Some(part) if end == start.saturating_add(1) && self.count(load) == 1 => Some(part),
+            _ => None,
         }
     }
 

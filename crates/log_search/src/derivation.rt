@@ -2,6 +2,7 @@
 ghost use Rattle.std.specs.Prelude.{◌≡◌};
 
 use crate::edges::Why;
+use crate::fronts::Fronts;
 use crate::graphs::Graph;
 use crate::links::Links;
 use crate::notes::Notes;
@@ -59,6 +60,8 @@ pub(crate) struct Derivation {
     pub(crate) links: Links,
     /// What was found, if it is noted: then all nodes are done, and what has the fewest nodes before it is looked at first.
     pub(crate) notes: Notes,
+    /// How far the nodes were met then.
+    pub(crate) fronts: Fronts,
     /// How many nodes were done since the rules were looked at.
     waiting: u32,
     pub(crate) work: Work,
@@ -132,6 +135,7 @@ impl Derivation {
             queue: Queue::new(memory, nodes),
             links: Links::new(memory.alloc()),
             notes: Notes::new(memory.alloc()),
+            fronts: Fronts::new(memory.alloc()),
             waiting: 0,
             work,
             done: memory.room(nodes),
@@ -144,17 +148,6 @@ impl Derivation {
     /// Whether nothing more is looked for now: a violation was found, or work or memory came to its end.
     pub(crate) fn is_stopped(&self, memory: &Memory) -> bool {
         self.closing.is_some() || self.work.is_spent() || memory.is_refused()
-    }
-
-    /// Counts a look: its time.
-    pub(crate) fn tick(&mut self) -> u32 {
-        self.clock = self.clock.saturating_add(1);
-        self.clock
-    }
-
-    /// The last time that a node's row grew.
-    pub(crate) fn changed_at(&self, node: u32) -> u32 {
-        item(&self.changed, node)
     }
 
     /// How many operations are done: those whose first node is.
@@ -234,7 +227,22 @@ impl Derivation {
         if self.take(u, v) {
             put(&mut self.changed, v, self.clock);
             self.look_for_cycle(v);
-            self.queue(memory, v);
+            if self.is_met(v) {
+                self.queue(memory, v);
+            }
+        }
+    }
+
+    /// Whether a node's row is handed on where it grows: of what isn't met yet that follows when it is.
+    #[inline]
+    pub(crate) fn is_met(&self, number: u32) -> bool {
+        !self.notes.is_on() || self.is_before_front(number)
+    }
+
+    fn is_before_front(&self, number: u32) -> bool {
+        match self.graph.node(number) {
+            Some(node) => number < self.fronts.node(node.processor),
+            None => false,
         }
     }
 

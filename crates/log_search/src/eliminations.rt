@@ -1,33 +1,26 @@
-//! Sources by elimination: loads are looked at where the wave of the derived order is, until each can have read several.
+//! Sources by elimination: nodes are met in the order of levels, and loads are looked at when something may have changed for
+//! them, until each can have read several.
 
 use crate::candidates::Candidates;
 use crate::derivation::{Closing, Derivation};
-use crate::looks::{Answer, Looks};
+use crate::glances::Pair;
+use crate::looks::Looks;
 use crate::nodes::{FIRST, Kind, Node, node_at};
-use crate::numbers::{item, narrow, put};
+use crate::numbers::NONE;
+use crate::watches::{Watches, covers};
 use progress_meters::Meter;
 use search_memory::Memory;
 
-/// Usually so many nodes are passed before loads whose source isn't known yet are looked at.
-pub(crate) const WINDOW: u32 = 512;
+/// So many nodes are met before loads whose source isn't known yet are looked at.
+const WINDOW: u32 = 512;
 
-/// At the end all loads whose source isn't known are looked at so many times divided by how many they are, where something was
-/// new each time, also for what is the same whichever store they read.
-const LAST_LOOKS: usize = 100_000;
-
-/// And at least so many times.
-const LEAST_LAST_LOOKS: usize = 1;
-
-/// After that, and in each window, loads for which something may have changed are looked at so many times more.
-const MORE_LOOKS: usize = 3;
-
-/// Which loads are looked at.
+/// When what a source tells is handed on.
 #[derive(Clone, Copy, PartialEq, Eq)]
-enum Glance {
-    /// All.
-    Whole,
-    /// Those for which something may have changed: what reaches them, or which stores swaps read.
-    Changed,
+pub(crate) enum Pace {
+    /// Once all loads were looked at for which something may have changed.
+    Many,
+    /// At once.
+    One,
 }
 
 /// The derived order, and the loads whose sources aren't known yet.
@@ -35,268 +28,315 @@ enum Glance {
 pub(crate) struct Elimination {
     pub(crate) derivation: Derivation,
     pub(crate) candidates: Candidates,
-    looks: Looks,
+    pub(crate) looks: Looks,
+    pub(crate) watches: Watches,
+    pace: Pace,
     bound: u32,
-    window: u32,
-    /// For each node when it was last looked at.
-    looked: Vec<u32>,
-    /// For each node whether it was passed.
-    is_met: Vec<bool>,
-    /// The loads that are looked at now; those before an index were looked at in the last window too.
-    pending: Vec<u32>,
-    older: usize,
-    /// Loads that wait for the end.
-    rest: Vec<u32>,
+    /// The loads that were met which can have read several by their values.
+    pub(crate) open: Vec<u32>,
+    /// Those of them that are the last swaps.
+    pub(crate) swaps: Vec<u32>,
 }
 
 impl Elimination {
-    /// Nothing is known but what the program says. So many nodes are passed before loads are looked at.
+    /// Nothing is known but what the program says.
     pub(crate) fn new(
         memory: &Memory,
         mut derivation: Derivation,
         candidates: Candidates,
-        window: u32,
+        pace: Pace,
     ) -> Elimination {
         derivation.begin_waves(memory);
         Elimination {
-            is_met: memory.filled(false, derivation.graph.nodes.len()),
-            looked: memory.filled(0, derivation.graph.nodes.len()),
+            watches: Watches::new(memory, derivation.graph.nodes.len(), candidates.classes()),
             derivation,
             candidates,
-            window,
+            pace,
             looks: Looks::new(memory.alloc()),
             bound: 0,
-            pending: Vec::new(memory.alloc()),
-            older: 0,
-            rest: Vec::new(memory.alloc()),
+            open: Vec::new(memory.alloc()),
+            swaps: Vec::new(memory.alloc()),
         }
     }
 
-    /// Finds what it can, up to a violation or the end of the budget. The meter hears of the operations that are passed.
+    /// Finds what it can, up to a violation or the end of the budget. The meter hears of the operations that are met.
     pub(crate) fn run<M: Meter>(&mut self, memory: &Memory, meter: &M) {
         for _ in 0..usize::MAX {
-            if self.derivation.is_stopped(memory) || self.derivation.queue.first_rank().is_none() {
+            if self.derivation.is_stopped(memory) || !self.raise_bound(memory) {
                 break;
             }
-            self.bound = self.bound.saturating_add(self.window);
-            self.drain(memory, meter);
-            self.look_at_all(memory, meter, Glance::Whole);
-            self.look_again(memory, meter);
-            self.age(memory);
+            self.advance(memory, meter);
+            self.settle(memory);
+            self.agree_on_swaps(memory);
         }
-        self.begin_end(memory);
-        let loads = self.pending.len();
-        let most = LAST_LOOKS.checked_div(loads).unwrap_or(0);
-        self.settle(memory, meter, most.max(LEAST_LAST_LOOKS));
+        self.finish(memory);
     }
 
-    /// Takes all loads whose source isn't known for a last time.
-    fn begin_end(&mut self, memory: &Memory) {
-        self.bound = u32::MAX;
-        let nodes = &self.derivation.graph.nodes;
-        self.pending.clear();
-        self.older = 0;
-        for load in &self.rest {
-            if is_open(nodes, *load) {
-                memory.push(&mut self.pending, *load);
+    /// Sets how far the nodes are met next: whether some are left.
+    fn raise_bound(&mut self, memory: &Memory) -> bool {
+        let fronts = &mut self.derivation.fronts;
+        if fronts.first_level().is_none()
+            && let Some(processor) = fronts.free_one()
+        {
+            fronts.push(memory, self.bound, processor);
+        }
+        match fronts.first_level() {
+            Some(level) => {
+                self.bound = self.bound.max(level).saturating_add(WINDOW);
+                true
             }
+            None => false,
         }
-        self.rest.clear();
     }
 
-    /// Passes the nodes up to the bound.
-    fn drain<M: Meter>(&mut self, memory: &Memory, meter: &M) {
+    /// Meets the nodes up to the bound.
+    fn advance<M: Meter>(&mut self, memory: &Memory, meter: &M) {
         for _ in 0..usize::MAX {
+            self.drain(memory);
             if self.derivation.is_stopped(memory) {
                 break;
             }
-            let Some(number) = self.derivation.next_in_wave(memory, self.bound) else {
+            let Some(processor) = self.next_front(memory) else {
                 break;
             };
-            self.meet(memory, number, meter);
-            if !self.derivation.queue.has(number) {
-                self.derivation.pass(memory, number);
-            }
+            self.meet_front(memory, processor, meter);
         }
     }
 
-    /// A node is passed: if it is a load that can have read one thing alone by its value, that is its source.
-    fn meet<M: Meter>(&mut self, memory: &Memory, number: u32, meter: &M) {
-        match self.is_met.get_mut(number as usize) {
-            Some(is_met) if !*is_met => *is_met = true,
-            _ => return,
+    /// The processor whose front is met next.
+    fn next_front(&mut self, memory: &Memory) -> Option<u32> {
+        for _ in 0..usize::MAX {
+            let Some(level) = self.derivation.fronts.first_level() else {
+                return None;
+            };
+            if level > self.bound {
+                return None;
+            }
+            let Some(processor) = self.derivation.fronts.pop() else {
+                return None;
+            };
+            let number = self.derivation.fronts.node(processor);
+            let now = self.derivation.rows.level(number);
+            if now > level {
+                self.derivation.fronts.push(memory, now, processor);
+            } else if let Some(store) = self.awaited_by(number, processor) {
+                self.derivation.fronts.wait(processor, store);
+            } else {
+                return Some(processor);
+            }
         }
+        None
+    }
+
+    /// The store that a processor's front waits for: the one that it read by the values alone, if that wasn't met yet.
+    fn awaited_by(&self, number: u32, processor: u32) -> Option<u32> {
+        let Some(node) = self.derivation.graph.node(number) else {
+            return None;
+        };
+        if !node.is_open() || self.derivation.fronts.is_free(processor) {
+            return None;
+        }
+        let part = self.candidates.only_part(number)?;
+        let place = self.candidates.place(part.start);
+        let store = self.derivation.graph.chains.member(part.chain, place)?;
+        let is_own = match self.derivation.graph.node(store) {
+            Some(node) => node.processor == processor,
+            None => true,
+        };
+        if is_own || self.derivation.is_met(store) {
+            None
+        } else {
+            Some(store)
+        }
+    }
+
+    /// Meets the front of a processor, of a swap both its load and its store.
+    fn meet_front<M: Meter>(&mut self, memory: &Memory, processor: u32, meter: &M) {
+        let number = self.derivation.fronts.node(processor);
+        self.meet(memory, number, processor, meter);
+        if self.derivation.graph.is_swap_load(number) {
+            self.drain(memory);
+            self.meet(memory, number.saturating_add(1), processor, meter);
+        }
+        let front = self.derivation.fronts.node(processor);
+        if front < self.derivation.graph.nodes_of(processor).1 {
+            let level = self.derivation.rows.level(front);
+            self.derivation.fronts.push(memory, level, processor);
+        }
+    }
+
+    /// Meets a node: if it is a load that can have read one thing alone by its value, that is its source.
+    fn meet<M: Meter>(&mut self, memory: &Memory, number: u32, processor: u32, meter: &M) {
+        self.derivation.fronts.advance(processor);
         if self.derivation.graph.begins_operation(number) {
             meter.advance(1);
         }
         if is_open(&self.derivation.graph.nodes, number) {
             if self.candidates.count(number) > 1 {
-                memory.push(&mut self.pending, number);
-                memory.push(&mut self.rest, number);
+                memory.push(&mut self.open, number);
+                if self.derivation.graph.is_swap_load(number) {
+                    memory.push(&mut self.swaps, number);
+                }
+                self.watches.wake(memory, &self.derivation, number);
             } else {
                 self.look(memory, number);
             }
         }
+        if !self.derivation.queue.has(number) {
+            self.pass(memory, number);
+        }
+        self.end_waiting(memory, number);
     }
 
-    /// Looks at the loads that wait, until nothing is new, but at all of them only so many times.
-    fn settle<M: Meter>(&mut self, memory: &Memory, meter: &M, most: usize) {
-        for _ in 0..most {
-            let is_known = self.look_at_all(memory, meter, Glance::Whole);
-            self.look_again(memory, meter);
-            let is_agreed = self.agree(memory, meter);
-            if !is_known && !is_agreed || self.derivation.is_stopped(memory) {
+    /// The processors whose fronts waited for a store go on.
+    fn end_waiting(&mut self, memory: &Memory, store: u32) {
+        let fronts = &mut self.derivation.fronts;
+        for _ in 0..usize::MAX {
+            let Some(processor) = fronts.end_waiting(store) else {
+                break;
+            };
+            let level = self.derivation.rows.level(fronts.node(processor));
+            fronts.push(memory, level, processor);
+        }
+    }
+
+    /// Hands on what grew.
+    fn drain(&mut self, memory: &Memory) {
+        for _ in 0..usize::MAX {
+            if self.derivation.is_stopped(memory) {
                 break;
             }
-            self.look_again(memory, meter);
+            let Some(number) = self.derivation.next_grown(memory) else {
+                break;
+            };
+            self.pass(memory, number);
         }
     }
 
-    /// Looks at each load that waits once for what is the same whichever store it read: whether something was new.
-    fn agree<M: Meter>(&mut self, memory: &Memory, meter: &M) -> bool {
-        let mut is_new = false;
-        for index in 0..self.pending.len() {
-            if self.derivation.is_stopped(memory) {
-                return false;
-            }
-            if let Some(load) = self.pending.get(index).copied()
-                && self.is_looked_at(load, Glance::Whole)
-            {
-                is_new |= self.agree_at(memory, load);
-            }
-        }
-        self.drain(memory, meter);
-        is_new
-    }
-
-    /// What is the same whichever store a load read: whether something is new.
-    fn agree_at(&mut self, memory: &Memory, load: u32) -> bool {
-        let derivation = &mut self.derivation;
-        match self
-            .looks
-            .look(memory, derivation, &mut self.candidates, load)
-        {
-            Answer::Several => {
-                let is_in = self.looks.agree_in(memory, derivation);
-                let is_out = self.looks.agree_out(memory, derivation);
-                is_in || is_out
-            }
-            // That is found where all is handed on.
-            Answer::Nothing | Answer::One(_) => true,
+    /// What follows from a node's row, and who is to be looked at since it grew.
+    fn pass(&mut self, memory: &Memory, number: u32) {
+        self.derivation.pass(memory, number);
+        self.watches.wake_at(memory, &self.derivation, number);
+        if is_open(&self.derivation.graph.nodes, number) {
+            self.watches.wake_grown(memory, &self.derivation, number);
         }
     }
 
-    /// Looks at those of the loads that wait for which something may have changed, a few times while something is new.
-    fn look_again<M: Meter>(&mut self, memory: &Memory, meter: &M) {
-        for _ in 0..MORE_LOOKS {
-            if !self.look_at_all(memory, meter, Glance::Changed) {
+    /// Looks at loads for which something may have changed, until there are none. Swaps come first: what they read orders most.
+    pub(crate) fn settle(&mut self, memory: &Memory) {
+        for _ in 0..usize::MAX {
+            self.drain(memory);
+            if self.watches.is_quiet() || self.derivation.is_stopped(memory) {
                 break;
             }
+            if !self.look_at_woken(memory, true) {
+                self.look_at_woken(memory, false);
+            }
         }
     }
 
-    /// Looks at each load that waits once: whether something was new.
-    fn look_at_all<M: Meter>(&mut self, memory: &Memory, meter: &M, glance: Glance) -> bool {
+    /// Looks at swaps' loads, or at all other loads, that were woken: whether something is known of one now.
+    fn look_at_woken(&mut self, memory: &Memory, is_swap: bool) -> bool {
         let mut is_new = false;
-        for index in 0..self.pending.len() {
+        for index in 0..usize::MAX {
+            let Some(load) = self.watches.woken_at(is_swap, index) else {
+                break;
+            };
             if self.derivation.is_stopped(memory) {
-                return false;
+                break;
             }
-            if let Some(load) = self.pending.get(index).copied()
-                && self.is_looked_at(load, glance)
-                && self.look(memory, load)
-            {
+            if is_open(&self.derivation.graph.nodes, load) && self.look(memory, load) {
                 is_new = true;
-                self.drain(memory, meter);
+                if self.pace == Pace::One {
+                    self.drain(memory);
+                }
             }
         }
+        self.watches.forget_woken(is_swap);
         is_new
     }
 
-    /// Whether a load is looked at now.
-    fn is_looked_at(&self, load: u32, glance: Glance) -> bool {
-        match self.derivation.graph.node(load) {
-            Some(node) if node.is_open() && self.is_behind_wave(load) => {
-                let looked = item(&self.looked, load);
-                glance != Glance::Changed
-                    || self.derivation.changed_at(load) >= looked
-                    || node.kind == Kind::SwapLoad && self.candidates.taken_at(load) >= looked
-            }
-            _ => false,
+    /// Looks at a load: whether its source is known now, or that it has none.
+    fn look(&mut self, memory: &Memory, load: u32) -> bool {
+        let from = self.watches.watched(load).part;
+        let derivation = &mut self.derivation;
+        let pair = self
+            .looks
+            .glance(memory, derivation, &mut self.candidates, load, from);
+        if pair.first == NONE {
+            self.derivation.closing = Some(Closing::NoSource(load));
+            return true;
+        }
+        if pair.second == NONE && self.may_learn(load, pair.first) {
+            self.learn(memory, load, pair.first);
+            return true;
+        }
+        self.watch(memory, load, pair);
+        false
+    }
+
+    /// Whether a source that is the only one left is one that was met, or the only one by the values.
+    fn may_learn(&self, load: u32, source: u32) -> bool {
+        source == FIRST || self.derivation.is_met(source) || self.candidates.count(load) == 1
+    }
+
+    /// A load waits for what says more of what it can have read.
+    fn watch(&mut self, memory: &Memory, load: u32, pair: Pair) {
+        let Some(node) = self.derivation.graph.node(load) else {
+            return;
+        };
+        if node.kind == Kind::SwapLoad && pair.first == FIRST {
+            let class = self.candidates.class_number(load);
+            self.watches.watch_first(memory, load, class);
+        }
+        self.watches.watch(memory, load, node, pair);
+        let is_before = covers(&self.derivation, load, pair.first)
+            || covers(&self.derivation, load, pair.second);
+        if is_before {
+            self.watch_seen(memory, load, node, pair);
         }
     }
 
-    /// Whether the wave is so far past a load that what reaches it is known, as far as it is found at all.
-    fn is_behind_wave(&self, load: u32) -> bool {
-        self.bound == u32::MAX
-            || self.derivation.rows.level(load) <= self.bound.saturating_sub(self.window / 2)
-    }
-
-    /// Looks at a load: whether something is new.
-    fn look(&mut self, memory: &Memory, load: u32) -> bool {
-        let derivation = &mut self.derivation;
-        put(&mut self.looked, load, derivation.tick());
-        let answer = self
-            .looks
-            .look(memory, derivation, &mut self.candidates, load);
-        match answer {
-            Answer::Nothing => {
-                derivation.closing = Some(Closing::NoSource(load));
-                true
+    /// One of the two that a load can have read is known to come before it: it waits for the last store that it sees.
+    fn watch_seen(&mut self, memory: &Memory, load: u32, node: Node, pair: Pair) {
+        for index in 0..self.looks.seen.len() {
+            let Some(store) = self.looks.seen.get(index).copied() else {
+                break;
+            };
+            let is_watched = store == node.own || store == pair.first || store == pair.second;
+            if !is_watched && !self.looks.is_followed(&self.derivation, store) {
+                self.watches.watch_seen(memory, load, store);
             }
-            Answer::One(source) => {
-                self.learn(memory, load, source);
-                true
-            }
-            Answer::Several => false,
         }
     }
 
     /// A load's source is known; what a swap read no other one did.
     fn learn(&mut self, memory: &Memory, load: u32, source: u32) {
-        if let Some(node) = self.derivation.graph.node(load)
-            && node.kind == Kind::SwapLoad
-        {
-            let time = self.derivation.tick();
-            self.candidates.note_taken(load, time);
-            if source == FIRST {
-                self.candidates.take_first(load);
-            } else if let Some(store) = self.derivation.graph.node(source) {
-                self.candidates.take(load, store.chain, store.place);
-            }
+        if self.derivation.graph.is_swap_load(load) {
+            self.take(memory, load, source);
         }
         let is_only = self.candidates.count(load) == 1;
         self.derivation.learn(memory, load, source, is_only);
     }
 
-    /// Loads that waited in two windows wait for the end.
-    fn age(&mut self, memory: &Memory) {
-        let mut kept = Vec::new(memory.alloc());
-        for index in self.older..self.pending.len() {
-            if let Some(load) = self.pending.get(index).copied()
-                && is_open(&self.derivation.graph.nodes, load)
-            {
-                memory.push(&mut kept, load);
+    /// A swap read a source.
+    fn take(&mut self, memory: &Memory, load: u32, source: u32) {
+        let list = if source == FIRST {
+            self.candidates.take_first(load);
+            let class = self.candidates.class_number(load);
+            self.watches.list_of_class(class)
+        } else {
+            if let Some(store) = self.derivation.graph.node(source) {
+                self.candidates.take(load, store.chain, store.place);
             }
-        }
-        self.older = kept.len();
-        self.pending = kept;
-    }
-
-    /// How many loads were looked at whose source isn't known.
-    pub(crate) fn open_nodes(&self) -> usize {
-        let mut total: usize = 0;
-        for number in 0..self.derivation.graph.nodes.len() {
-            if is_open(&self.derivation.graph.nodes, narrow(number)) {
-                total = total.saturating_add(1);
-            }
-        }
-        total
+            source
+        };
+        self.watches.wake_swaps(memory, &self.derivation, list);
     }
 }
 
 /// Whether a node is a load whose source isn't known.
-fn is_open(nodes: &[Node], number: u32) -> bool {
+pub(crate) fn is_open(nodes: &[Node], number: u32) -> bool {
     match node_at(nodes, number) {
         Some(node) => node.is_open(),
         None => false,

@@ -3,6 +3,7 @@
 use crate::candidates::{Candidates, Part};
 use crate::derivation::Derivation;
 use crate::edges::Why;
+use crate::glances::processor_of;
 use crate::nodes::{FIRST, Kind, Node};
 use crate::numbers::{NONE, item, narrow};
 use search_memory::Memory;
@@ -30,9 +31,9 @@ struct Left {
 /// The load that is looked at, and what is found of it.
 #[derive(Drop)]
 pub(crate) struct Looks {
-    load: u32,
-    /// The last store of each chain to its address that it sees.
-    seen: Vec<u32>,
+    pub(crate) load: u32,
+    /// The last store of each chain to its address that it sees, but for some that others of these follow.
+    pub(crate) seen: Vec<u32>,
     left: Vec<Left>,
     has_first: bool,
     /// Whether one of the stores left was forwarded, if the load read it.
@@ -65,8 +66,7 @@ impl Looks {
         let Some(node) = derivation.graph.node(load) else {
             return Answer::Several;
         };
-        self.load = load;
-        self.find_seen(memory, derivation, node);
+        self.find_seen(memory, derivation, load, node);
         let is_swap = node.kind == Kind::SwapLoad;
         self.has_first = self.seen.is_empty() && candidates.has_first(load, is_swap);
         self.has_own = false;
@@ -99,28 +99,55 @@ impl Looks {
     }
 
     /// Finds what the load sees: its own last store, and others that reach it.
-    fn find_seen(&mut self, memory: &Memory, derivation: &mut Derivation, node: Node) {
+    pub(crate) fn find_seen(
+        &mut self,
+        memory: &Memory,
+        derivation: &mut Derivation,
+        load: u32,
+        node: Node,
+    ) {
+        self.load = load;
         self.seen.clear();
         if node.own != NONE {
             memory.push(&mut self.seen, node.own);
         }
+        let (first, last) = derivation.graph.nodes_of(node.processor);
         let (start, end) = derivation.graph.groups.range(node.address);
         for index in start..end {
             let Some(group) = derivation.graph.groups.get(index) else {
                 break;
             };
             let place = derivation.rows.place(self.load, group.chain);
-            if place == 0 {
+            if place == 0 || self.has_seen(derivation, group.chain, place) {
                 continue;
             }
-            let last = derivation.graph.groups.last_place(index, place);
-            if let Some(store) = derivation.graph.chains.member(group.chain, last)
-                && let Some(other) = derivation.graph.node(store)
-                && other.processor != node.processor
+            let place = derivation.graph.groups.last_place(index, place);
+            if let Some(store) = derivation.graph.chains.member(group.chain, place)
+                && (store < first || store >= last)
             {
                 memory.push(&mut self.seen, store);
             }
         }
+    }
+
+    /// Whether one of the stores found so far that the load sees comes after all up to a place of a chain.
+    fn has_seen(&self, derivation: &Derivation, chain: u32, place: u32) -> bool {
+        for store in &self.seen {
+            if derivation.rows.place(*store, chain) >= place {
+                return true;
+            }
+        }
+        false
+    }
+
+    /// Whether a store that the load sees is known to come before another one.
+    pub(crate) fn is_followed(&self, derivation: &Derivation, store: u32) -> bool {
+        for other in &self.seen {
+            if *other != store && derivation.reaches(store, *other) {
+                return true;
+            }
+        }
+        false
     }
 
     /// What is left of the stores of one chain.
@@ -138,24 +165,15 @@ impl Looks {
             past = past.max(derivation.rows.place(*store, part.chain));
         }
         let mut start = candidates.find_end(index, past);
-        let mut is_own = false;
-        let mut end = part.end;
-        if let Some(first) = derivation
-            .graph
-            .chains
-            .member(part.chain, candidates.place(part.start))
-            && let Some(store) = derivation.graph.node(first)
-            && store.processor == node.processor
-        {
-            is_own = true;
-            end = own_end(derivation, candidates, node, part);
-        }
+        let is_own = processor_of(derivation, candidates, part) == node.processor;
         if node.kind == Kind::SwapLoad {
             start = candidates.first_left(start);
         }
-        if !is_own {
-            end = first_behind(derivation, candidates, self.load, part, start);
-        }
+        let mut end = if is_own {
+            own_end(derivation, candidates, node, part)
+        } else {
+            first_behind(derivation, candidates, self.load, part, start)
+        };
         if node.kind == Kind::SwapLoad {
             end = candidates.end_left(end);
         }
@@ -305,7 +323,12 @@ impl Looks {
 }
 
 /// The end of those of a part's stores that stand before a load of their processor.
-fn own_end(derivation: &Derivation, candidates: &Candidates, load: Node, part: Part) -> u32 {
+pub(crate) fn own_end(
+    derivation: &Derivation,
+    candidates: &Candidates,
+    load: Node,
+    part: Part,
+) -> u32 {
     match derivation.graph.node(load.own) {
         Some(own) => candidates.end_up_to(part, own.place),
         None => part.start,

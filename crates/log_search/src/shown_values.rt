@@ -84,12 +84,7 @@ pub(crate) fn violation_of(
             ValueEnd::NoSource(event_of(known, &derivation.graph, load))
         }
     };
-    let mut loads = Vec::new(memory.alloc());
-    for load in &showing.loads {
-        if let Some(shown) = showing.shown(memory, *load) {
-            memory.push(&mut loads, shown);
-        }
-    }
+    let loads = showing.all_shown(memory);
     ValueViolation {
         evidence: ValueEvidence {
             steps: derivation.notes.steps(memory, known, &derivation.graph),
@@ -132,6 +127,17 @@ impl Showing<'_> {
                 self.add_load(memory, load);
             }
         }
+    }
+
+    /// What is shown of all loads that are shown.
+    fn all_shown(&self, memory: &Memory) -> Vec<ShownLoad> {
+        let mut loads = Vec::new(memory.alloc());
+        for load in &self.loads {
+            if let Some(shown) = self.shown(memory, *load) {
+                memory.push(&mut loads, shown);
+            }
+        }
+        loads
     }
 
     /// What is shown of a load.

@@ -3,14 +3,18 @@
 use crate::building::{Scope, build};
 use crate::candidates::Candidates;
 use crate::derivation::{Derivation, Work};
-use crate::eliminations::{Elimination, WINDOW};
+use crate::eliminations::{Elimination, Pace};
 use crate::shown_values::{ValueViolation, violation_of};
 use crate::surveys::{Addresses, Survey};
+use crate::unknowns::count_unknown;
 use log_selections::KnownLog;
 use progress_meters::Meter;
 use search_memory::Memory;
 use std::alloc::Global;
 use tso_ops::OutOfMemory;
+
+/// So few nodes are always looked at one after the other.
+const FEW_NODES: usize = 10_000;
 
 /// What a search by values found.
 #[derive(Debug, Drop)]
@@ -31,7 +35,7 @@ pub struct ValueSearch<'a> {
     /// The addresses that are looked at next.
     addresses: Addresses,
     work: Work,
-    window: u32,
+    pace: Pace,
     unknown: usize,
     parts: usize,
 }
@@ -58,7 +62,7 @@ impl<'a> ValueSearch<'a> {
                 known.sources().len(),
                 known.log().lists.len().saturating_mul(2),
             ),
-            window: WINDOW,
+            pace: Pace::Many,
             unknown: 0,
             parts: 0,
         };
@@ -66,10 +70,10 @@ impl<'a> ValueSearch<'a> {
     }
 
     /// The next call of `run` searches the whole log anew, and only where nothing waits: slower, but then no step of its evidence
-    /// gives a load a source that it can't have read. Else that may be, seldom, in a log of over 500 events.
+    /// gives a load a source that it can't have read. Else that may be, seldom, in a log of over 10,000 events.
     pub fn begin_again(&mut self) {
         self.addresses = self.survey.addresses_from(0);
-        self.window = u32::MAX;
+        self.pace = Pace::One;
         self.unknown = 0;
         self.parts = 0;
     }
@@ -85,8 +89,9 @@ impl<'a> ValueSearch<'a> {
         self.parts
     }
 
-    /// How many loads that were looked at have a source that isn't known, after the search. Of loads that follow one another at
-    /// once and read one value only the first and the last are looked at.
+    /// How many loads of the log that can have read several by their values have sources that aren't known after the search. Of
+    /// loads that follow one another and read one value only the first and the last are looked at: those between have the source
+    /// that these two have, if that is one.
     pub fn unknown(&self) -> usize {
         self.unknown
     }
@@ -122,11 +127,21 @@ impl<'a> ValueSearch<'a> {
         };
         let graph = build(memory, scope);
         let candidates = Candidates::new(memory, self.known, &graph.nodes);
+        let pace = if graph.nodes.len() <= FEW_NODES {
+            Pace::One
+        } else {
+            self.pace
+        };
         let derivation = Derivation::new(memory, graph, self.work);
-        let mut elimination = Elimination::new(memory, derivation, candidates, self.window);
+        let mut elimination = Elimination::new(memory, derivation, candidates, pace);
         elimination.run(memory, meter);
         self.work = elimination.derivation.work;
-        self.unknown = self.unknown.saturating_add(elimination.open_nodes());
+        let unknown = count_unknown(
+            scope,
+            &elimination.derivation.graph,
+            &elimination.candidates,
+        );
+        self.unknown = self.unknown.saturating_add(unknown);
         match elimination.derivation.closing {
             Some(closing) => {
                 ValueFound::Violation(violation_of(memory, self.known, &elimination, closing))

@@ -4,44 +4,25 @@
 use crate::derivation::Derivation;
 use crate::edges::Why;
 use crate::nodes::{FIRST, Node};
-use crate::numbers::{NONE, narrow};
+use crate::numbers::NONE;
 use search_memory::Memory;
 
 impl Derivation {
-    /// All nodes are done, and the program alone says what reaches them.
+    /// All nodes count as done, and none is met.
     pub(crate) fn begin_waves(&mut self, memory: &Memory) {
         self.notes.turn_on();
         for rank in self.graph.ranks.iter_mut() {
             *rank = 1;
         }
-        for number in 0..self.graph.nodes.len() {
-            self.join_program(memory, narrow(number));
-        }
+        self.fronts.begin(memory, &self.graph.firsts);
     }
 
-    /// What comes before a node by the program reaches it: nodes before it are looked at already.
-    fn join_program(&mut self, memory: &Memory, number: u32) {
-        self.graph.links_to(memory, number, &mut self.links);
-        for k in 0..self.links.len() {
-            let Some(link) = self.links.get(k) else {
-                break;
-            };
-            if !matches!(link.why, Why::SwapBefore(_)) {
-                self.take(link.node, number);
-            }
-        }
-        self.queue(memory, number);
-    }
-
-    /// The node that has the fewest before it, of those that wait and have no more than so many.
-    pub(crate) fn next_in_wave(&mut self, memory: &Memory, bound: u32) -> Option<u32> {
+    /// The next node whose row grew since it was handed on: of those the one with the fewest nodes before it.
+    pub(crate) fn next_grown(&mut self, memory: &Memory) -> Option<u32> {
         for _ in 0..usize::MAX {
             let Some(rank) = self.queue.first_rank() else {
                 return None;
             };
-            if rank > bound {
-                return None;
-            }
             let Some(number) = self.queue.pop() else {
                 return None;
             };
@@ -152,6 +133,21 @@ impl Derivation {
         }
     }
 
+    /// A load whose source is known comes before the stores that come after that: looks for these again.
+    pub(crate) fn put_before_later(&mut self, memory: &Memory, load: u32) {
+        let Some(node) = self.graph.node(load) else {
+            return;
+        };
+        if node.is_open() || node.source == FIRST {
+            return;
+        }
+        let (start, end) = self.graph.groups.range(node.address);
+        self.work.spend(end.saturating_sub(start) as usize);
+        for index in start..end {
+            self.put_before_group(memory, load, node.source, index);
+        }
+    }
+
     /// The load comes before the first store of a group that comes after its source.
     fn put_before_group(&mut self, memory: &Memory, load: u32, source: u32, index: u32) {
         let Some(group) = self.graph.groups.get(index) else {
@@ -170,15 +166,27 @@ impl Derivation {
         }
     }
 
+    /// Whether the store at an index of a group was met.
+    fn is_met_at(&self, chain: u32, index: u32) -> bool {
+        match self
+            .graph
+            .chains
+            .member(chain, self.graph.groups.place(index))
+        {
+            Some(store) => self.is_met(store),
+            None => false,
+        }
+    }
+
     /// The first index among those of a group's stores that has a store after the load or after the source: rows far ahead may
-    /// lack what reaches them, so it looks near first.
+    /// lack what reaches them, so it looks near first, and at none that wasn't met.
     fn first_after(&mut self, chain: u32, range: (u32, u32), load: u32, source: u32) -> u32 {
         let (mut low, end) = range;
         let mut high = low;
         let mut step: u32 = 1;
         for _ in 0..u32::BITS {
-            if high >= end {
-                high = end;
+            if high >= end || !self.is_met_at(chain, high) {
+                high = high.min(end);
                 break;
             }
             if self.is_after_either(chain, high, load, source) {
