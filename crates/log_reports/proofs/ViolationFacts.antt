@@ -14,8 +14,11 @@ use Rattle.log_selections.specs.declared.shown.Shown.{Shown}
 use Rattle.log_selections.specs.Shown.{IsSelected, log_of_shown}
 use Rattle.log_selections.proofs.SelectionOrders.{selection_violation}
 use Rattle.log_selections.proofs.UnwrittenFacts.{unwritten_no_order}
+use Rattle.log_thinning.proofs.IdleLogs.{idle_swaps_forward}
+use Rattle.log_thinning.specs.IdleSwaps.{with_idle_swaps_read}
+use Rattle.value_evidence.proofs.Soundness as soundness
 use Rattle.log_reports.specs.declared.findings.LogViolation.{LogViolation}
-use Rattle.log_reports.specs.declared.findings.LogViolation.TheVariants.{Selection, Unwritten}
+use Rattle.log_reports.specs.declared.findings.LogViolation.TheVariants.{Selection, Unwritten, ByValues}
 use Rattle.log_reports.specs.declared.forms.LogFound.{LogFound}
 use Rattle.request_options.specs.declared.logs.LogOptions.{LogOptions}
 use Rattle.trace_reports.specs.declared.answers.Answer.TheVariants.{Clear, Undecided, Violation, Refused}
@@ -37,6 +40,8 @@ module _ (log : NumberedLog) (shown : List Shown) (t : TraceValue) (selected : I
 pub log_violation : (log : NumberedLog) (violation : LogViolation) → IsListed log violation → IsConsistent (log_operations log) → ⊥
 log_violation log (Selection selected finding) (is, violation, found) = selected_violation log selected.shown.items selected.trace is violation
 log_violation log (Unwritten load) is = unwritten_no_order log load.shown.logged is.unwritten
+log_violation log (ByValues shown) (lines, holds) = λ consistent.
+    soundness.no_order (log_operations (with_idle_swaps_read log)) shown.evidence holds (idle_swaps_forward log consistent)
 
 -- where the verdict is Violation, one is listed
 listed : (log : NumberedLog) (violations : List LogViolation) (all_judged : _) → cond (is_empty violations) (cond all_judged Clear Undecided) Violation ≡ Violation → All (IsListed log) violations → IsConsistent (log_operations log) → ⊥
@@ -54,22 +59,22 @@ none_listed [] false is = absurd cc
 none_listed (violation ∷ violations) all_judged is = absurd cc
 
 -- so no load read what nothing wrote
-all_judged_written : (early unjudged unlisted nothing many : Bool) → (not early && not (unjudged || unlisted) && not nothing && not many) ≡ true → unlisted ≡ false
-all_judged_written early unjudged false nothing many is = refl
-all_judged_written true unjudged true nothing many is = absurd cc
-all_judged_written false true true nothing many is = absurd cc
-all_judged_written false false true nothing many is = absurd cc
+all_judged_written : (early unjudged unlisted refused nothing many : Bool) → (not early && not (unjudged || unlisted || refused) && not nothing && not many) ≡ true → unlisted ≡ false
+all_judged_written early unjudged false refused nothing many is = refl
+all_judged_written true unjudged true refused nothing many is = absurd cc
+all_judged_written false true true refused nothing many is = absurd cc
+all_judged_written false false true refused nothing many is = absurd cc
 
 found_none : (log : NumberedLog) (found : LogFound) → AreWrittenIn log found.findings → verdict_of found ≡ Clear → (l : ℕ) → IsUnwritten (log_operations log) l → ⊥
 found_none log found written is =
     let findings = found.findings in
     let (none, all_judged) = none_listed findings.violations.items (is_all_judged found) is in
-    written none (all_judged_written findings.is_early (not (is_empty findings.unjudged.items)) findings.has_unlisted (is_nothing_judged found.counts) (is_too_unknown found.options.max_unknown found.counts) all_judged)
+    written none (all_judged_written findings.is_early (not (is_empty findings.unjudged.items)) findings.has_unlisted findings.has_refused (is_nothing_judged found.counts) (is_too_unknown found.options.max_unknown found.counts) all_judged)
 
 pub report_written : (said : RendersLog) (refused : RendersRefusal) (options : LogOptions) (bytes text : List ℕ) → IsLogReport said refused options bytes text Clear → (log : NumberedLog) → SpellsLog bytes log → (l : ℕ) → IsUnwritten (log_operations log) l → ⊥
 report_written said refused options bytes text is log spelled =
     ⊎_elim
-    (λ of_log. subst (λ (other : NumberedLog). (l : ℕ) → IsUnwritten (log_operations other) l → ⊥) (one_log bytes of_log.0 log of_log.1 spelled) (found_none of_log.0 (found_in of_log.0 options of_log.3.tags of_log.3.unknown of_log.3.findings) of_log.3.written (sym of_log.3.gives)))
+    (λ of_log. subst (λ (other : NumberedLog). (l : ℕ) → IsUnwritten (log_operations other) l → ⊥) (one_log bytes of_log.0 log of_log.1 spelled) (found_none of_log.0 (found_in of_log.0 options of_log.3.tags of_log.3.findings) of_log.3.written (sym of_log.3.gives)))
     (λ refusal. absurd (differ refusal.gives))
     is
   where
@@ -79,7 +84,7 @@ report_written said refused options bytes text is log spelled =
 pub report_violation : (said : RendersLog) (refused : RendersRefusal) (options : LogOptions) (bytes text : List ℕ) → IsLogReport said refused options bytes text Violation → (log : NumberedLog) → SpellsLog bytes log → IsConsistent (log_operations log) → ⊥
 report_violation said refused options bytes text is log spelled =
     ⊎_elim
-    (λ of_log. subst (λ (other : NumberedLog). IsConsistent (log_operations other) → ⊥) (one_log bytes of_log.0 log of_log.1 spelled) (found_violation of_log.0 (found_in of_log.0 options of_log.3.tags of_log.3.unknown of_log.3.findings) of_log.3.found (sym of_log.3.gives)))
+    (λ of_log. subst (λ (other : NumberedLog). IsConsistent (log_operations other) → ⊥) (one_log bytes of_log.0 log of_log.1 spelled) (found_violation of_log.0 (found_in of_log.0 options of_log.3.tags of_log.3.findings) of_log.3.found (sym of_log.3.gives)))
     (λ refusal. absurd (differ refusal.gives))
     is
   where

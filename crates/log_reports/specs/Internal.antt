@@ -1,3 +1,2 @@
 -- How far private functions have come. No public contract uses these definitions.
 pub mod NamedEvents
-pub mod ViolationTexts

@@ -6,3 +6,5 @@ pub mod LogRefusals
 pub mod LogReports
 pub mod LogTexts
 pub mod Namings
+pub mod ValueTexts
+pub mod ValueViolations

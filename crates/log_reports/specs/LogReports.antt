@@ -7,14 +7,13 @@ use Rattle.log_text.specs.LogTexts.{IsEndedAsNeeded, IsLogRefusal, SpellsLog}
 use Rattle.log_text.specs.LogValues.{NumberedLog}
 use Rattle.log_text.specs.Tags.{AreTagsOf}
 use Rattle.log_text.specs.declared.tags.LineTags.{LineTags}
-use Rattle.log_selections.specs.Sources.{IsAmbiguousCount}
 use Rattle.log_reports.specs.declared.findings.LogFindings.{LogFindings}
 use Rattle.log_reports.specs.declared.forms.LogFound.{LogFound}
 use Rattle.request_options.specs.declared.logs.LogOptions.{LogOptions}
 use Rattle.trace_reports.specs.Renderings.{RendersRefusal}
 use Rattle.trace_reports.specs.declared.answers.Answer.{Answer}
 use Rattle.trace_reports.specs.declared.answers.Answer.TheVariants.{Clear, Undecided, Violation, Refused}
-use Rattle.log_reports.specs.Findings.{AreFindings, AreWithin, AreWrittenIn, has_unjudged}
+use Rattle.log_reports.specs.Findings.{AreFindings, AreWithin, AreWrittenIn, IsUnknownCount, has_unjudged}
 use Rattle.log_reports.specs.LogCounts.{counts_of, is_nothing_judged, is_too_unknown}
 
 -- The whole log was searched, what was found could be judged, some load was, and no larger share of the loads is unknown than allowed.
@@ -31,9 +30,9 @@ verdict_of found = cond (is_empty found.findings.violations.items) (cond (is_all
 abbrev pub RendersLog : Type 0
 RendersLog = NumberedLog → LogFound → List ℕ
 
--- what was found in the log, of the loads of which so many have a source that the values don't tell, and the tags of its lines
-abbrev pub found_in : NumberedLog → LogOptions → LineTags → ℕ → LogFindings → LogFound
-found_in log options tags unknown findings = record { options = options; counts = counts_of log unknown; findings = findings; tags = tags }
+-- what was found in the log, and the tags of its lines
+abbrev pub found_in : NumberedLog → LogOptions → LineTags → LogFindings → LogFound
+found_in log options tags findings = record { options = options; counts = counts_of log findings.unknown; findings = findings; tags = tags }
 
 -- The text is rendered of the log by what was found in it, and by the tags of these bytes, which spell it.
 pub record IsReportOf (renders : RendersLog) (log : NumberedLog) (bytes : List ℕ) (options : LogOptions) (text : List ℕ) (verdict : Answer) : Type 0 where
@@ -43,11 +42,10 @@ pub record IsReportOf (renders : RendersLog) (log : NumberedLog) (bytes : List �
   pub written : AreWrittenIn log findings
   pub tags : LineTags
   pub tagged : AreTagsOf bytes tags
-  -- how many loads have a source that the values don't tell
-  pub unknown : ℕ
-  pub counted : IsAmbiguousCount log unknown
-  pub says : text ≡ renders log (found_in log options tags unknown findings)
-  pub gives : verdict ≡ verdict_of (found_in log options tags unknown findings)
+  -- no more loads are said to be unknown than have several sources by their values
+  pub unknown : IsUnknownCount log findings.unknown
+  pub says : text ≡ renders log (found_in log options tags findings)
+  pub gives : verdict ≡ verdict_of (found_in log options tags findings)
 
 -- The text is rendered of the refusal of these bytes: they are no log, or lack the line `end` that is needed.
 pub record IsRefusalOf (renders : RendersRefusal) (options : LogOptions) (bytes text : List ℕ) (verdict : Answer) : Type 0 where

@@ -1,5 +1,5 @@
 -- What is said of a log in each form: by the lines of its violations, with explanations after them, or by the texts of their traces.
-use Rattle.std.specs.Prelude.{ℕ, Bool, List, [], ◌∷◌, ◌++◌, length, ◌+◌, cond, codes}
+use Rattle.std.specs.Prelude.{ℕ, Bool, true, false, List, [], ◌∷◌, ◌++◌, length, ◌+◌, cond, codes}
 use Rattle.std.specs.List.{flat_map}
 use Rattle.std.specs.Option.{option_map_or}
 use Rattle.std.specs.Fmt.{decimal}
@@ -14,6 +14,7 @@ use Rattle.log_selections.specs.Unwritten.{lone_load}
 use Rattle.log_reports.specs.LogCounts.{is_nothing_judged, is_too_unknown}
 use Rattle.log_reports.specs.Lines.{log_line_text, log_lines_text}
 use Rattle.log_reports.specs.Namings.{naming_of_shown}
+use Rattle.log_reports.specs.ValueTexts.{evidence_lines_text, evidence_sentences}
 use Rattle.trace_explanation.specs.JoinedTexts.{joined}
 use Rattle.trace_explanation.specs.Explanations.{explanation_by}
 use Rattle.log_reports.specs.declared.counts.LogCounts.{LogCounts}
@@ -22,7 +23,7 @@ use Rattle.log_reports.specs.declared.findings.LogFindings.{LogFindings}
 use Rattle.log_reports.specs.declared.forms.LogFound.{LogFound}
 use Rattle.log_reports.specs.LogReports.{RendersLog}
 use Rattle.log_reports.specs.declared.findings.LogViolation.{LogViolation}
-use Rattle.log_reports.specs.declared.findings.LogViolation.TheVariants.{Selection, Unwritten}
+use Rattle.log_reports.specs.declared.findings.LogViolation.TheVariants.{Selection, Unwritten, ByValues}
 use Rattle.trace_reports.specs.declared.findings.Finding.{Finding}
 
 -- ---- violations
@@ -35,22 +36,20 @@ store_text word s = word ++ decimal s.value ++ codes " line " ++ decimal s.line
 abbrev pub stored_text : UnwrittenLoad → List ℕ
 stored_text load = codes "stored " ++ decimal load.stores ++ option_map_or (store_text (codes " first ")) load.first [] ++ option_map_or (store_text (codes " last ")) load.last [] ++ codes "\n"
 
--- what is said after the lines of operations without an order, of a log with so many processors
-abbrev pub SaidAfterLines : Type 0
-SaidAfterLines = ℕ → Selected → Finding → List ℕ
+-- why lines have no order, of a log with so many processors
+abbrev pub selection_explained : ℕ → Selected → Finding → List ℕ
+selection_explained processors selected finding = explanation_by (naming_of_shown processors selected.shown.items) selected.trace finding.certificate ++ codes "\n"
 
--- nothing
-abbrev pub nothing_after : SaidAfterLines
-nothing_after processors selected finding = []
+-- these words where something is so
+abbrev pub words_if : Bool → List ℕ → List ℕ
+words_if is words = cond is words []
 
--- why they have none
-abbrev pub explained_after : SaidAfterLines
-explained_after processors selected finding = explanation_by (naming_of_shown processors selected.shown.items) selected.trace finding.certificate ++ codes "\n"
-
--- the lines of a violation, with these tags, and what is said after them
-abbrev pub violation_text : SaidAfterLines → (ℕ → List ℕ) → ℕ → LogViolation → List ℕ
-violation_text after tags processors (Selection selected finding) = log_lines_text tags selected.shown.items ++ after processors selected finding
-violation_text after tags processors (Unwritten load) = log_line_text tags load.shown ++ stored_text load
+-- the lines of a violation, with these tags, and their explanation where one is asked for
+abbrev pub violation_text : Bool → (ℕ → List ℕ) → ℕ → LogViolation → List ℕ
+violation_text explains tags processors (Selection selected finding) =
+    log_lines_text tags selected.shown.items ++ words_if explains (selection_explained processors selected finding)
+violation_text explains tags processors (Unwritten load) = log_line_text tags load.shown ++ stored_text load
+violation_text explains tags processors (ByValues shown) = evidence_lines_text tags shown ++ words_if explains (evidence_sentences shown)
 
 -- the texts of elements, each after a line with a word and its number, from this number on
 abbrev pub numbered_from : {X : Type 0} → (X → List ℕ) → List ℕ → ℕ → List X → List ℕ
@@ -63,10 +62,6 @@ unfoldable pub counts_text : LogCounts → List ℕ
 counts_text counts = joined (
     codes "TSO LOG 1\nprocessors " ∷ decimal counts.processors ∷ codes " operations " ∷ decimal counts.operations ∷ codes " loads " ∷ decimal counts.loads
     ∷ codes " unknown " ∷ decimal counts.unknown ∷ codes " left " ∷ decimal counts.left_out ∷ codes "\n" ∷ [])
-
--- these words where something is so
-abbrev pub words_if : Bool → List ℕ → List ℕ
-words_if is words = cond is words []
 
 -- that the rest of the log wasn't judged, or what is no trace
 abbrev pub unsearched_text : LogFindings → List ℕ
@@ -96,18 +91,19 @@ count_text count has_more = codes "violations " ++ decimal count ++ words_if has
 abbrev pub total_text : LogFindings → List ℕ
 total_text findings = cond (is_empty findings.violations.items) [] (count_text (length findings.violations.items) findings.has_more)
 
--- the report, with this after the lines of operations without an order
-abbrev pub report_text : SaidAfterLines → LogFound → List ℕ
-report_text after found =
+-- the report, with explanations or without
+abbrev pub report_text : Bool → LogFound → List ℕ
+report_text explains found =
     counts_text found.counts ++ verdict_text found
-    ++ numbered_from (violation_text after (tag_in found.tags) found.counts.processors) (codes "violation ") 1 found.findings.violations.items
+    ++ numbered_from (violation_text explains (tag_in found.tags) found.counts.processors) (codes "violation ") 1 found.findings.violations.items
     ++ total_text found.findings
     ++ numbered_from (λ shown. log_lines_text (tag_in found.tags) shown.items) (codes "unjudged ") 1 found.findings.unjudged.items
 
--- the text of a violation's trace: of a load of what nothing wrote it is such a load alone
+-- the text of a violation's trace: of a load of what nothing wrote it is such a load alone; a violation by values has none
 abbrev pub violation_trace_text : Order → LogViolation → List ℕ
 violation_trace_text order (Selection selected finding) = trace_text selected.trace
 violation_trace_text order (Unwritten load) = trace_text (lone_load order)
+violation_trace_text order (ByValues shown) = []
 
 abbrev pub violation_traces_text : Order → LogFindings → List ℕ
 violation_traces_text order findings = flat_map (violation_trace_text order) findings.violations.items
@@ -115,10 +111,10 @@ violation_traces_text order findings = flat_map (violation_trace_text order) fin
 -- ---- the forms
 
 abbrev pub log_lines : RendersLog
-log_lines log found = report_text nothing_after found
+log_lines log found = report_text false found
 
 abbrev pub log_explained : RendersLog
-log_explained log found = report_text explained_after found
+log_explained log found = report_text true found
 
 abbrev pub log_traces : RendersLog
 log_traces log found = violation_traces_text log.order found.findings

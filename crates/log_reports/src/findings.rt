@@ -3,13 +3,14 @@ ghost use Rattle.std.specs.Prelude.{◌≡◌, ◌≤◌, ◌⊎◌, ◌+◌, Bo
 ghost use Rattle.std.specs.List.{count_by};
 ghost use Rattle.text_streams.specs.declared.faults.Fault.{Fault};
 ghost use Rattle.log_text.specs.LogValues.{NumberedLog};
-ghost use Rattle.log_reports.specs.Findings.{AreFindings, AreWithin, AreWrittenIn, IsListed, has_unjudged, is_selection, is_unwritten};
+ghost use Rattle.log_reports.specs.Findings.{AreFindings, AreWithin, AreWrittenIn, IsListed, IsUnknownCount, has_unjudged, is_by_values, is_selection, is_unwritten};
 ghost use Rattle.log_reports.specs.declared.findings.LogViolation.{LogViolation};
 
 use crate::judging::TraceJudge;
+use crate::value_violations::ShownEvidence;
 use log_search::{Found, Judge, Search, fit_trace, is_within_limits, reduce};
 use log_selections::{Kept, KnownLog, Selected, Shown, UnwrittenLoad};
-use progress_meters::Meter;
+use progress_meters::{Meter, TotalMeter};
 use request_options::LogOptions;
 use std::alloc::{AllocFailed, Global};
 use std::sync::Wait;
@@ -31,6 +32,8 @@ pub enum LogViolation {
     },
     /// A load of what nothing wrote to its address.
     Unwritten(UnwrittenLoad),
+    /// Evidence by the values of the log, where they repeat.
+    ByValues(ShownEvidence),
 }
 
 /// What is found in a log.
@@ -53,14 +56,20 @@ pub struct LogFindings {
     pub is_early: bool,
     /// Whether nothing is listed, though some load read what nothing wrote.
     pub has_unlisted: bool,
+    /// Whether evidence by values was found, but its checker refused it: a fault of the search.
+    pub has_refused: bool,
+    /// How many loads have a source that isn't known. Where something is listed that isn't by values these are all that have
+    /// several sources by their values.
+    pub unknown: usize,
 }
 
 /// Finds violations of a log: first loads of what nothing wrote, in the order of their processors, and then what the search
-/// finds, with the effort that the options allow it; of each kind as many at most as they say. The meter hears of each operation
-/// once, when the search passed it.
+/// finds, with the effort that the options allow it; of each kind as many at most as they say. Where nothing was found, and some
+/// loads have several sources by their values, a second search finds the first violation that these values show. The meter hears of
+/// each operation once in each search, when the search passed it, and before the second how many there are in both.
 ///
 /// Faults: OutOfMemory where an allocation was refused, and NoThread where the system refused a thread.
-pub fn find_violations<H: Threads + Wait, M: Meter>(
+pub fn find_violations<H: Threads + Wait, M: TotalMeter>(
     rt: &H,
     alloc: Global,
     known: &KnownLog,
@@ -69,6 +78,7 @@ pub fn find_violations<H: Threads + Wait, M: Meter>(
 ) -> Result<LogFindings, Fault>
     ensures found { IfOk result (AreFindings known.now) }
     ensures few { IfOk result (AreWithin options.most) }
+    ensures unknown { IfOk result (λ findings. IsUnknownCount known.now findings.unknown) }
     ensures written { IfOk result (AreWrittenIn known.now) }
     ensures fault { IfErr result (λ fault. (fault ≡ Fault.OutOfMemory) ⊎ (fault ≡ Fault.NoThread)) }
 {
@@ -81,10 +91,14 @@ pub fn find_violations<H: Threads + Wait, M: Meter>(
         parts: 1,
         is_early: false,
         has_unlisted: false,
+        has_refused: false,
+        unknown: 0,
     };
     findings.list_unwritten(alloc, known, options.most)?;
     findings.search(rt, alloc, known, options, meter)?;
+    let unknown = findings.search_values(alloc, known, options, meter)?;
     findings.note_unlisted(known);
+    findings.unknown = unknown;
     Ok(findings)
 }
 
@@ -99,6 +113,7 @@ impl LogFindings {
         ensures found { OnOk result (AreFindings known.now self.old → AreFindings known.now self.new) }
         ensures unwritten { OnOk result (count_by is_unwritten self.new.violations.items ≤ count_by is_unwritten self.old.violations.items + most) }
         ensures selections { OnOk result (count_by is_selection self.new.violations.items ≡ count_by is_selection self.old.violations.items) }
+        ensures by_values { OnOk result (count_by is_by_values self.new.violations.items ≡ count_by is_by_values self.old.violations.items) }
     {
         let mut places = most;
         for number in known.unwritten_loads() {
@@ -122,6 +137,7 @@ impl LogFindings {
         ensures found { OnOk result (AreFindings known.now self.old → AreFindings known.now self.new) }
         ensures unwritten { OnOk result (count_by is_unwritten self.new.violations.items ≡ count_by is_unwritten self.old.violations.items) }
         ensures selections { OnOk result (count_by is_selection self.new.violations.items ≤ count_by is_selection self.old.violations.items + options.most) }
+        ensures by_values { OnOk result (count_by is_by_values self.new.violations.items ≡ count_by is_by_values self.old.violations.items) }
         ensures fault { IfErr result (λ fault. (fault ≡ Fault.OutOfMemory) ⊎ (fault ≡ Fault.NoThread)) }
     {
         let mut search = Search::new(alloc, known, options.effort)?;
@@ -159,6 +175,7 @@ impl LogFindings {
         ensures unwritten { OnOk result (count_by is_unwritten self.new.violations.items ≡ count_by is_unwritten self.old.violations.items) }
         ensures selections { OnOk result (count_by is_selection self.new.violations.items + places.new ≡
             count_by is_selection self.old.violations.items + places.old) }
+        ensures by_values { OnOk result (count_by is_by_values self.new.violations.items ≡ count_by is_by_values self.old.violations.items) }
         ensures fault { IfErr result (λ fault. (fault ≡ Fault.OutOfMemory) ⊎ (fault ≡ Fault.NoThread)) }
     {
         let mut judge = TraceJudge::new(rt, alloc, known, &kept);
@@ -177,7 +194,7 @@ impl LogFindings {
 
     /// Lists a violation in one of the places that are left, or notes that there are more; or notes that what should have been one is
     /// none. Whether there was a place, or none was needed.
-    fn list(
+    pub(crate) fn list(
         &mut self,
         found: Option<LogViolation>,
         places: &mut usize,
@@ -215,7 +232,7 @@ impl LogFindings {
     pub(crate) fn has_unjudged(&self) -> bool
         ensures { result ≡ has_unjudged self.now }
     {
-        !self.unjudged.is_empty() || self.has_unlisted
+        !self.unjudged.is_empty() || self.has_unlisted || self.has_refused
     }
 
     /// Notes a proposal that can't be judged as a trace.
@@ -246,6 +263,7 @@ fn unwritten_load(
     ensures found { IfOk result (λ found. IfSome found (IsListed known.now)) }
     ensures selection { IfOk result (λ found. IfSome found (λ violation. is_selection violation ≡ false)) }
     ensures unwritten { IfOk result (λ found. IfSome found (λ violation. is_unwritten violation ≡ true)) }
+    ensures by_values { IfOk result (λ found. IfSome found (λ violation. is_by_values violation ≡ false)) }
 {
     match known.unwritten(alloc, number)? {
         Some(load) => Ok(Some(LogViolation::Unwritten(load))),
@@ -263,6 +281,7 @@ fn judge_kept<H: Threads + Wait>(
     ensures found { IfOk result (λ found. IfSome found (IsListed known.now)) }
     ensures selection { IfOk result (λ found. IfSome found (λ violation. is_selection violation ≡ true)) }
     ensures written { IfOk result (λ found. IfSome found (λ violation. is_unwritten violation ≡ false)) }
+    ensures by_values { IfOk result (λ found. IfSome found (λ violation. is_by_values violation ≡ false)) }
     ensures fault { IfErr result (λ fault. (fault ≡ Fault.OutOfMemory) ⊎ (fault ≡ Fault.NoThread)) }
 {
     let Some(selected) = known.select(alloc, kept)? else {

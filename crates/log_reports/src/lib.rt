@@ -7,6 +7,7 @@ pub use counts::LogCounts;
 pub use findings::{LogFindings, LogViolation, find_violations};
 pub use forms::{AsExplainedLog, AsLogLines, AsLogTraces, LogFound};
 pub use reports::{LogReporting, report_log};
+pub use value_violations::{ShownEvidence, ShownSource, ShownSources};
 
 mod counts;
 mod findings;
@@ -20,3 +21,6 @@ mod refusal_sentences;
 mod refusals;
 mod rendering;
 mod reports;
+mod value_rendering;
+mod value_searching;
+mod value_violations;

@@ -25,6 +25,11 @@ pub(crate) fn render_notes(alloc: Global, found: &LogFound) -> Result<String, Ou
     )?;
     push_note(
         &mut text,
+        "evidence by values that its checker refused",
+        findings.has_refused as usize,
+    )?;
+    push_note(
+        &mut text,
         "violations of which lines might be left out",
         findings.unreduced,
     )?;
@@ -43,32 +48,41 @@ pub(crate) fn render_notes(alloc: Global, found: &LogFound) -> Result<String, Ou
     Ok(text)
 }
 
-/// Appends a line for each trace, with the numbers of its lines in the log: `trace 1 line 12 40`.
+/// Appends a line for each trace, with the numbers of its lines in the log: `trace 1 line 12 40`; and then how many violations have
+/// none.
 fn push_origins(text: &mut String, violations: &[LogViolation]) -> Result<(), AllocError> {
-    for (k, violation) in violations.iter().enumerate() {
-        let number = k + 1;
-        write!(text, "trace {number} line")?;
+    let mut traces: usize = 0;
+    for violation in violations {
         match violation {
-            LogViolation::Selection { selected, .. } => push_numbers(text, &selected.shown)?,
-            LogViolation::Unwritten(load) => push_number(text, &load.shown)?,
+            LogViolation::Selection { selected, .. } => {
+                traces = traces.saturating_add(1);
+                push_origin(text, traces, &selected.shown)?;
+            }
+            LogViolation::Unwritten(load) => {
+                traces = traces.saturating_add(1);
+                push_origin(text, traces, &[load.shown])?;
+            }
+            LogViolation::ByValues(_) => {}
         }
-        text.push_str("\n")?;
     }
-    Ok(())
+    let without = violations.len().saturating_sub(traces);
+    push_note(text, "violations by values, without a trace", without)
+}
+
+/// Appends a line for the trace of this number, with the numbers of its lines in the log.
+fn push_origin(text: &mut String, number: usize, shown: &[Shown]) -> Result<(), AllocError> {
+    write!(text, "trace {number} line")?;
+    push_numbers(text, shown)?;
+    text.push_str("\n")
 }
 
 /// Appends the numbers of these lines, each after a space.
 fn push_numbers(text: &mut String, shown: &[Shown]) -> Result<(), AllocError> {
     for one in shown {
-        push_number(text, one)?;
+        let line = one.logged.line;
+        write!(text, " {line}")?;
     }
     Ok(())
-}
-
-/// Appends the number of a line, after a space.
-fn push_number(text: &mut String, shown: &Shown) -> Result<(), AllocError> {
-    let line = shown.logged.line;
-    write!(text, " {line}")
 }
 
 /// Appends a line with a number that isn't 0.

@@ -3,14 +3,14 @@ ghost use Rattle.std.specs.Prelude.{◌≡◌, ◌++◌, [], IfOk, OnOk, codes, 
 ghost use Rattle.std.specs.Option.{option_map_or};
 ghost use Rattle.log_text.specs.Tags.{tag_in};
 ghost use Rattle.log_reports.specs.Lines.{log_lines_text};
-ghost use Rattle.log_reports.specs.Internal.ViolationTexts.{after_lines};
-ghost use Rattle.log_reports.specs.LogTexts.{count_text, counts_text, explained_after, found_text, gaps_text, numbered_from, report_text, store_text, stored_text, total_text, unknown_text, unsearched_text, verdict_text, violation_text, violation_trace_text, violation_traces_text, words_if};
+ghost use Rattle.log_reports.specs.LogTexts.{count_text, counts_text, found_text, gaps_text, numbered_from, report_text, selection_explained, store_text, stored_text, total_text, unknown_text, unsearched_text, verdict_text, violation_text, violation_trace_text, violation_traces_text, words_if};
 
 use crate::counts::LogCounts;
 use crate::findings::{LogFindings, LogViolation};
 use crate::forms::LogFound;
 use crate::lines::{push_line, push_lines};
 use crate::naming::name_events;
+use crate::value_rendering::{push_evidence_lines, push_evidence_sentences};
 use log_selections::{LoggedStore, Selected, Shown, UnwrittenLoad, lone_load};
 use log_text::LineTags;
 use std::alloc::{AllocError, Global};
@@ -26,7 +26,7 @@ pub(crate) fn render_report(
     explains: bool,
     found: &LogFound,
 ) -> Result<String, OutOfMemory>
-    ensures { IfOk result (λ text. string_bytes text ≡ report_text (after_lines explains) found.now) }
+    ensures { IfOk result (λ text. string_bytes text ≡ report_text explains found.now) }
 {
     let findings = &found.findings;
     let processors = found.counts.processors;
@@ -157,7 +157,7 @@ fn push_numbered(
     processors: usize,
     violations: &[LogViolation],
 ) -> Result<(), AllocError>
-    ensures { OnOk result (string_bytes text.new ≡ string_bytes text.old ++ numbered_from (violation_text (after_lines explains) (tag_in tags.now) processors)
+    ensures { OnOk result (string_bytes text.new ≡ string_bytes text.old ++ numbered_from (violation_text explains (tag_in tags.now) processors)
         (codes "violation ") 1 violations.now) }
 {
     for (k, violation) in violations.iter().enumerate() {
@@ -177,7 +177,7 @@ fn push_violation(
     processors: usize,
     violation: &LogViolation,
 ) -> Result<(), AllocError>
-    ensures { OnOk result (string_bytes text.new ≡ string_bytes text.old ++ violation_text (after_lines explains) (tag_in tags.now) processors violation.now) }
+    ensures { OnOk result (string_bytes text.new ≡ string_bytes text.old ++ violation_text explains (tag_in tags.now) processors violation.now) }
 {
     match violation {
         LogViolation::Selection { selected, finding } => {
@@ -191,6 +191,13 @@ fn push_violation(
             push_line(text, tags, &load.shown)?;
             push_stored(text, load)
         }
+        LogViolation::ByValues(shown) => {
+            push_evidence_lines(text, tags, shown)?;
+            if explains {
+                push_evidence_sentences(text, shown)?;
+            }
+            Ok(())
+        }
     }
 }
 
@@ -202,7 +209,7 @@ fn push_explanation(
     selected: &Selected,
     finding: &Finding,
 ) -> Result<(), AllocError>
-    ensures { OnOk result (string_bytes text.new ≡ string_bytes text.old ++ explained_after processors selected.now finding.now) }
+    ensures { OnOk result (string_bytes text.new ≡ string_bytes text.old ++ selection_explained processors selected.now finding.now) }
 {
     let names = name_events(alloc, processors, &selected.shown)?;
     explain_named(alloc, text, &selected.trace, &finding.certificate, &names)?;
@@ -264,7 +271,7 @@ pub(crate) fn render_traces(
     Ok(text)
 }
 
-/// Appends the text of a violation's trace: of a load of what nothing wrote it is such a load alone.
+/// Appends the text of a violation's trace: of a load of what nothing wrote it is such a load alone; a violation by values has none.
 fn push_trace(
     alloc: Global,
     text: &mut String,
@@ -281,6 +288,7 @@ fn push_trace(
             let trace = lone_load(alloc, order)?;
             text.push_str(&print_trace(alloc, &trace)?)?;
         }
+        LogViolation::ByValues(_) => {}
     }
     Ok(())
 }

@@ -49,7 +49,8 @@ struct LogReport {
 /// Reports on the log that a reader has: writes what is rendered of what was found in it, or of a text that is no log.
 ///
 /// Notes on what was left out go to `errors`; what that doesn't take is lost. The meter hears how many operations the log has, and
-/// of each once, when the search passed it: of all, unless the search ended early or found more violations than are listed.
+/// of each once, when the search passed it: of all, unless the search ended early or found more violations than are listed. Where a search
+/// by values follows, it hears that there are so many more, and of these likewise.
 ///
 /// Faults: OutOfMemory where an allocation was refused; Read where the reader failed, or didn't show its end within 2,097,152
 /// calls of `read`; NoThread where the system refused a thread; Write where the writer failed, took no byte or was interrupted
@@ -131,9 +132,11 @@ fn report_on<H: Threads + Wait + AllocGlobal, P: Rendering<KnownLog, LogFound>, 
     let options = reporting.options;
     let rendering = reporting.rendering;
     let known = KnownLog::new(alloc, log)?;
-    let counts = LogCounts::new(known.log(), known.ambiguous_loads())?;
+    let several = known.ambiguous_loads();
+    let mut counts = LogCounts::new(known.log(), several)?;
     meter.expect_total(counts.operations as u64);
     let findings = find_violations(rt, alloc, &known, options, meter)?;
+    counts.unknown = findings.unknown;
     let found = LogFound {
         options,
         counts,

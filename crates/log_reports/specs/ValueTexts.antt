@@ -1,0 +1,63 @@
+-- What is said of a violation by values: lines of the log, and how many stores were eliminated; with explanations, why.
+use Rattle.std.specs.Prelude.{ℕ, List, [], ◌∷◌, ◌++◌, length, cond, codes}
+use Rattle.std.specs.List.{flat_map}
+use Rattle.std.specs.Fmt.{decimal}
+use Rattle.line_text.specs.Lines.{is_empty}
+use Rattle.trace_explanation.specs.JoinedTexts.{joined}
+use Rattle.log_reports.specs.Lines.{log_line_text, log_lines_text}
+use Rattle.log_reports.specs.declared.value_violations.ShownEvidence.{ShownEvidence}
+use Rattle.log_reports.specs.declared.value_violations.ShownSources.{ShownSources}
+use Rattle.log_reports.specs.declared.value_violations.ShownSource.{ShownSource}
+use Rattle.log_reports.specs.declared.value_violations.ShownSource.TheVariants.{Nothing, First, Line}
+
+-- of how many stores of the value a load can't have read how many, and why
+unfoldable pub eliminated_text : ShownSources → List ℕ
+eliminated_text s = joined (
+    codes "of " ∷ decimal s.stores ∷ codes " stores of " ∷ decimal s.value ∷ codes ": " ∷ decimal s.overwritten ∷ codes " overwritten, "
+    ∷ decimal s.later ∷ codes " later, " ∷ decimal s.taken ∷ codes " taken\n" ∷ [])
+
+-- what it read, if it can have read something
+abbrev pub source_text : ShownSource → List ℕ
+source_text Nothing = []
+source_text First = codes "read init\n"
+source_text (Line line) = codes "read line " ++ decimal line ++ codes "\n"
+
+-- a load, why it can't have read other stores than the one it read, and the nearest of these
+abbrev pub sources_text : (ℕ → List ℕ) → ShownSources → List ℕ
+sources_text tags s =
+    log_line_text tags s.load ++ eliminated_text s ++ source_text s.source ++ log_lines_text tags s.before.items ++ log_lines_text tags s.after.items
+
+-- the lines of a cycle, if there is one, and the loads that it needs
+abbrev pub evidence_lines_text : (ℕ → List ℕ) → ShownEvidence → List ℕ
+evidence_lines_text tags shown = log_lines_text tags shown.cycle.items ++ flat_map (sources_text tags) shown.loads.items
+
+-- ---- explanations
+
+-- the sentence on what a load read
+abbrev pub source_words : ShownSource → List ℕ
+source_words Nothing = codes "So it can have read none of them.\n"
+source_words First = codes "So it read the first value.\n"
+source_words (Line line) = codes "So it read line " ++ decimal line ++ codes ".\n"
+
+-- what a load read
+unfoldable pub load_words : ShownSources → List ℕ
+load_words s = joined (codes "Line " ∷ decimal s.load.logged.line ∷ codes " read " ∷ decimal s.value ∷ codes ". " ∷ [])
+
+-- of how many stores of the value it can't have read how many, and why
+unfoldable pub elimination_words : ShownSources → List ℕ
+elimination_words s = joined (
+    codes "Stores of this value to its address: " ∷ decimal s.stores ∷ codes ". Before another store that the line sees: " ∷ decimal s.overwritten
+    ∷ codes "; after it: " ∷ decimal s.later ∷ codes "; read by another swap: " ∷ decimal s.taken ∷ codes ". " ∷ [])
+
+abbrev pub sources_sentence : ShownSources → List ℕ
+sources_sentence s = load_words s ++ elimination_words s ++ source_words s.source
+
+-- what the cycle is, if there is one
+abbrev pub cycle_sentence : ShownEvidence → List ℕ
+cycle_sentence shown =
+    cond (is_empty shown.cycle.items) []
+    (codes "The first " ++ decimal (length shown.cycle.items) ++ codes " lines are a cycle: each comes before the next, and the last before the first.\n")
+
+-- why there is no order, and an empty line
+abbrev pub evidence_sentences : ShownEvidence → List ℕ
+evidence_sentences shown = flat_map sources_sentence shown.loads.items ++ cycle_sentence shown ++ codes "\n"

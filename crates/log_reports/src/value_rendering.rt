@@ -1,0 +1,156 @@
+//! The text of a violation by values.
+ghost use Rattle.std.specs.Prelude.{◌≡◌, ◌++◌, OnOk, string_bytes};
+ghost use Rattle.std.specs.List.{flat_map};
+ghost use Rattle.log_text.specs.Tags.{tag_in};
+ghost use Rattle.log_reports.specs.ValueTexts.{cycle_sentence, eliminated_text, elimination_words, evidence_lines_text, evidence_sentences, load_words, source_text, source_words, sources_sentence, sources_text};
+
+use crate::lines::{push_line, push_lines};
+use crate::value_violations::{ShownEvidence, ShownSource, ShownSources};
+use log_text::LineTags;
+use std::alloc::AllocError;
+use std::fmt::Write;
+
+/// Appends the lines of a violation by values, and what eliminates the sources of its loads.
+pub(crate) fn push_evidence_lines(
+    text: &mut String,
+    tags: &LineTags,
+    shown: &ShownEvidence,
+) -> Result<(), AllocError>
+    ensures { OnOk result (string_bytes text.new ≡ string_bytes text.old ++ evidence_lines_text (tag_in tags.now) shown.now) }
+{
+    push_lines(text, tags, &shown.cycle)?;
+    push_loads(text, tags, &shown.loads)
+}
+
+/// Appends loads with what eliminates their sources.
+fn push_loads(text: &mut String, tags: &LineTags, loads: &[ShownSources]) -> Result<(), AllocError>
+    ensures { OnOk result (string_bytes text.new ≡ string_bytes text.old ++ flat_map (sources_text (tag_in tags.now)) loads.now) }
+{
+    for sources in loads {
+        push_sources(text, tags, sources)?;
+    }
+    Ok(())
+}
+
+/// Appends a load with what eliminates its sources.
+fn push_sources(
+    text: &mut String,
+    tags: &LineTags,
+    sources: &ShownSources,
+) -> Result<(), AllocError>
+    ensures { OnOk result (string_bytes text.new ≡ string_bytes text.old ++ sources_text (tag_in tags.now) sources.now) }
+{
+    push_line(text, tags, &sources.load)?;
+    push_eliminated(text, sources)?;
+    push_source(text, sources.source)?;
+    push_lines(text, tags, &sources.before)?;
+    push_lines(text, tags, &sources.after)
+}
+
+/// Appends of how many stores a load can't have read how many.
+#[tactic(auto, unfolding(crate::specs::ValueTexts::eliminated_text))]
+fn push_eliminated(text: &mut String, sources: &ShownSources) -> Result<(), AllocError>
+    ensures { OnOk result (string_bytes text.new ≡ string_bytes text.old ++ eliminated_text sources.now) }
+{
+    let stores = sources.stores;
+    let value = sources.value;
+    let overwritten = sources.overwritten;
+    let later = sources.later;
+    let taken = sources.taken;
+    write!(
+        text,
+        "of {stores} stores of {value}: {overwritten} overwritten, {later} later, {taken} taken\n"
+    )
+}
+
+/// Appends what a load read.
+fn push_source(text: &mut String, source: ShownSource) -> Result<(), AllocError>
+    ensures { OnOk result (string_bytes text.new ≡ string_bytes text.old ++ source_text source) }
+{
+    match source {
+        ShownSource::Nothing => Ok(()),
+        ShownSource::First => text.push_str("read init\n"),
+        ShownSource::Line(line) => write!(text, "read line {line}\n"),
+    }
+}
+
+/// Appends why there is no order, and an empty line.
+pub(crate) fn push_evidence_sentences(
+    text: &mut String,
+    shown: &ShownEvidence,
+) -> Result<(), AllocError>
+    ensures { OnOk result (string_bytes text.new ≡ string_bytes text.old ++ evidence_sentences shown.now) }
+{
+    push_sentences(text, &shown.loads)?;
+    push_cycle_sentence(text, shown)?;
+    text.push_str("\n")
+}
+
+/// Appends why loads can't have read other stores.
+fn push_sentences(text: &mut String, loads: &[ShownSources]) -> Result<(), AllocError>
+    ensures { OnOk result (string_bytes text.new ≡ string_bytes text.old ++ flat_map sources_sentence loads.now) }
+{
+    for sources in loads {
+        push_sentence(text, sources)?;
+    }
+    Ok(())
+}
+
+/// Appends why a load can't have read other stores.
+fn push_sentence(text: &mut String, sources: &ShownSources) -> Result<(), AllocError>
+    ensures { OnOk result (string_bytes text.new ≡ string_bytes text.old ++ sources_sentence sources.now) }
+{
+    push_load_words(text, sources)?;
+    push_elimination(text, sources)?;
+    push_source_words(text, sources.source)
+}
+
+/// Appends what a load read.
+#[tactic(auto, unfolding(crate::specs::ValueTexts::load_words))]
+fn push_load_words(text: &mut String, sources: &ShownSources) -> Result<(), AllocError>
+    ensures { OnOk result (string_bytes text.new ≡ string_bytes text.old ++ load_words sources.now) }
+{
+    let line = sources.load.logged.line;
+    let value = sources.value;
+    write!(text, "Line {line} read {value}. ")
+}
+
+/// Appends of how many stores a load can't have read how many, and why.
+#[tactic(auto, unfolding(crate::specs::ValueTexts::elimination_words))]
+fn push_elimination(text: &mut String, sources: &ShownSources) -> Result<(), AllocError>
+    ensures { OnOk result (string_bytes text.new ≡ string_bytes text.old ++ elimination_words sources.now) }
+{
+    let stores = sources.stores;
+    let overwritten = sources.overwritten;
+    let later = sources.later;
+    let taken = sources.taken;
+    write!(
+        text,
+        "Stores of this value to its address: {stores}. Before another store that the line sees: {overwritten}; after it: {later}; read by another swap: {taken}. "
+    )
+}
+
+/// Appends the sentence on what a load read.
+fn push_source_words(text: &mut String, source: ShownSource) -> Result<(), AllocError>
+    ensures { OnOk result (string_bytes text.new ≡ string_bytes text.old ++ source_words source) }
+{
+    match source {
+        ShownSource::Nothing => text.push_str("So it can have read none of them.\n"),
+        ShownSource::First => text.push_str("So it read the first value.\n"),
+        ShownSource::Line(line) => write!(text, "So it read line {line}.\n"),
+    }
+}
+
+/// Appends what the cycle is, if there is one.
+fn push_cycle_sentence(text: &mut String, shown: &ShownEvidence) -> Result<(), AllocError>
+    ensures { OnOk result (string_bytes text.new ≡ string_bytes text.old ++ cycle_sentence shown.now) }
+{
+    if shown.cycle.is_empty() {
+        return Ok(());
+    }
+    let count = shown.cycle.len();
+    write!(
+        text,
+        "The first {count} lines are a cycle: each comes before the next, and the last before the first.\n"
+    )
+}
