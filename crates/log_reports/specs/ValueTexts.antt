@@ -17,15 +17,15 @@ eliminated_text s = joined (
     ∷ decimal s.later ∷ codes " later, " ∷ decimal s.taken ∷ codes " taken\n" ∷ [])
 
 -- what it read, if it can have read something
-abbrev pub source_text : ShownSource → List ℕ
-source_text Nothing = []
-source_text First = codes "read init\n"
-source_text (Line line) = codes "read line " ++ decimal line ++ codes "\n"
+abbrev pub source_found_text : ShownSource → List ℕ
+source_found_text Nothing = []
+source_found_text First = codes "read init\n"
+source_found_text (Line line) = codes "read line " ++ decimal line ++ codes "\n"
 
 -- a load, why it can't have read other stores than the one it read, and the nearest of these
 abbrev pub sources_text : (ℕ → List ℕ) → ShownSources → List ℕ
 sources_text tags s =
-    log_line_text tags s.load ++ eliminated_text s ++ source_text s.source ++ log_lines_text tags s.before.items ++ log_lines_text tags s.after.items
+    log_line_text tags s.load ++ eliminated_text s ++ source_found_text s.source ++ log_lines_text tags s.before.items ++ log_lines_text tags s.after.items
 
 -- the lines of a cycle, if there is one, and the loads that it needs
 abbrev pub evidence_lines_text : (ℕ → List ℕ) → ShownEvidence → List ℕ
@@ -40,8 +40,8 @@ source_words First = codes "So it read the first value.\n"
 source_words (Line line) = codes "So it read line " ++ decimal line ++ codes ".\n"
 
 -- what a load read
-unfoldable pub load_words : ShownSources → List ℕ
-load_words s = joined (codes "Line " ∷ decimal s.load.logged.line ∷ codes " read " ∷ decimal s.value ∷ codes ". " ∷ [])
+unfoldable pub value_read_words : ShownSources → List ℕ
+value_read_words s = joined (codes "Line " ∷ decimal s.load.logged.line ∷ codes " read " ∷ decimal s.value ∷ codes ". " ∷ [])
 
 -- of how many stores of the value it can't have read how many, and why
 unfoldable pub elimination_words : ShownSources → List ℕ
@@ -50,7 +50,7 @@ elimination_words s = joined (
     ∷ codes "; after it: " ∷ decimal s.later ∷ codes "; read by another swap: " ∷ decimal s.taken ∷ codes ". " ∷ [])
 
 abbrev pub sources_sentence : ShownSources → List ℕ
-sources_sentence s = load_words s ++ elimination_words s ++ source_words s.source
+sources_sentence s = value_read_words s ++ elimination_words s ++ source_words s.source
 
 -- what the cycle is, if there is one
 abbrev pub cycle_sentence : ShownEvidence → List ℕ

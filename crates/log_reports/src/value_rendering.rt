@@ -2,7 +2,7 @@
 ghost use Rattle.std.specs.Prelude.{◌≡◌, ◌++◌, OnOk, string_bytes};
 ghost use Rattle.std.specs.List.{flat_map};
 ghost use Rattle.log_text.specs.Tags.{tag_in};
-ghost use Rattle.log_reports.specs.ValueTexts.{cycle_sentence, eliminated_text, elimination_words, evidence_lines_text, evidence_sentences, load_words, source_text, source_words, sources_sentence, sources_text};
+ghost use Rattle.log_reports.specs.ValueTexts.{cycle_sentence, eliminated_text, elimination_words, evidence_lines_text, evidence_sentences, value_read_words, source_found_text, source_words, sources_sentence, sources_text};
 
 use crate::lines::{push_line, push_lines};
 use crate::value_violations::{ShownEvidence, ShownSource, ShownSources};
@@ -65,7 +65,7 @@ fn push_eliminated(text: &mut String, sources: &ShownSources) -> Result<(), Allo
 
 /// Appends what a load read.
 fn push_source(text: &mut String, source: ShownSource) -> Result<(), AllocError>
-    ensures { OnOk result (string_bytes text.new ≡ string_bytes text.old ++ source_text source) }
+    ensures { OnOk result (string_bytes text.new ≡ string_bytes text.old ++ source_found_text source) }
 {
     match source {
         ShownSource::Nothing => Ok(()),
@@ -100,15 +100,15 @@ fn push_sentences(text: &mut String, loads: &[ShownSources]) -> Result<(), Alloc
 fn push_sentence(text: &mut String, sources: &ShownSources) -> Result<(), AllocError>
     ensures { OnOk result (string_bytes text.new ≡ string_bytes text.old ++ sources_sentence sources.now) }
 {
-    push_load_words(text, sources)?;
+    push_value_read(text, sources)?;
     push_elimination(text, sources)?;
     push_source_words(text, sources.source)
 }
 
 /// Appends what a load read.
-#[tactic(auto, unfolding(crate::specs::ValueTexts::load_words))]
-fn push_load_words(text: &mut String, sources: &ShownSources) -> Result<(), AllocError>
-    ensures { OnOk result (string_bytes text.new ≡ string_bytes text.old ++ load_words sources.now) }
+#[tactic(auto, unfolding(crate::specs::ValueTexts::value_read_words))]
+fn push_value_read(text: &mut String, sources: &ShownSources) -> Result<(), AllocError>
+    ensures { OnOk result (string_bytes text.new ≡ string_bytes text.old ++ value_read_words sources.now) }
 {
     let line = sources.load.logged.line;
     let value = sources.value;
