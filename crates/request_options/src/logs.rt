@@ -10,6 +10,8 @@ pub enum LogForm {
     /// The texts of the violations' traces, one after another, and no report. That of a load of what nothing wrote has such a load
     /// alone.
     Traces,
+    /// The text of the evidence by values of a violation, and no report; nothing where no evidence by values is found.
+    Evidence,
 }
 
 /// How a log is reported on.
