@@ -119,7 +119,7 @@ pub fn report_text<E: Read, K: EvidenceKind>(
 {
     match read_trace(alloc, input) {
         Ok(trace) => {
-            let text = read_cert_text(alloc, evidence)?;
+            let text = read_evidence_text(alloc, evidence)?;
             Ok(kind.report(alloc, &trace, &text)?)
         }
         Err(fault) => {
@@ -131,7 +131,7 @@ pub fn report_text<E: Read, K: EvidenceKind>(
 
 /// All bytes of a reader, which are no more than the text of a certificate may have, or other evidence. Faults: OutOfMemory where
 /// an allocation was refused; Read where the reader failed or passed 2,097,152 calls, or has more than 67,108,864 bytes.
-fn read_cert_text<C: Read>(alloc: Global, reader: &mut C) -> Result<Vec<u8>, Fault>
+pub fn read_evidence_text<C: Read>(alloc: Global, reader: &mut C) -> Result<Vec<u8>, Fault>
     ensures prefix { IfOk result (λ bytes. IfSome (C.remaining reader.old) (λ all. bytes.items ≡ take certificate_read_limit all)) }
     ensures taken { IfOk result (λ _. LosesPrefix certificate_read_limit (C.remaining reader.old) (C.remaining reader.new)) }
     ensures within { IfOk result (λ bytes. length bytes.items ≤ certificate_byte_limit) }

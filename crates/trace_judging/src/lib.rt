@@ -8,7 +8,9 @@
 pub use cert_rendering::Certificates;
 pub use certificates::build_cert;
 pub use checking::check_texts;
-pub use evidence::{EvidenceKind, MAX_CERTIFICATE_BYTES, check_evidence, report_text};
+pub use evidence::{
+    EvidenceKind, MAX_CERTIFICATE_BYTES, check_evidence, read_evidence_text, report_text,
+};
 pub use findings::{ByRules, least_unwritten};
 pub use judging::judge;
 pub use questions::{Question, answer_reader, answer_text, answer_trace};
