@@ -143,6 +143,7 @@ OutOfMemory explain {SWAPS}
 OutOfMemory draw {SWAPS}
 OutOfMemory batch files/batch_no_violation.stream
 OutOfMemory log files/log_store_buffering.log
+OutOfMemory verify --log files/log_message_passing.log files/log_message_passing.evidence
 OutOfMemory check examples/unwritten_load.trace files/unwritten_1.certificate
 OutOfMemory replay --unit serial examples/replay_serial.program examples/replay_serial.schedule
 OutOfMemory run --unit buffer --seed 1 examples/replay_serial.program

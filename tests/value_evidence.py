@@ -62,18 +62,25 @@ class Checker:
         self.numbers = range(1, len(self.events))
         self.after = [0] * len(self.events)
         self.sources = {}
+        self.stores = {}
+        for store in self.numbers:
+            if self.is_store(store):
+                self.stores.setdefault(self.events[store].address, []).append(store)
         # who wrote the value of each load to its address
         self.writers = {load: self.writers_of(load) for load in self.numbers if self.events[load].is_load}
-        for u in self.numbers:
-            for v in self.numbers:
+        # what the program puts after an event comes later in it
+        for u in reversed(self.numbers):
+            for v in self.numbers[u:]:
                 if self.log.keeps(u - 1, v - 1):
-                    self.put_before(u, v)
+                    self.after[u] |= self.after[v] | 1 << v
+
+    def stores_to_place_of(self, load):
+        return self.stores.get(self.events[load].address, [])
 
     def writers_of(self, load):
         found = self.events[load]
         writers = [0] if found.value == self.log.first_value(found.address) else []
-        return writers + [store for store in self.numbers if self.is_store(store) and self.is_same_place(store, load)
-                          and self.events[store].value == found.value]
+        return writers + [store for store in self.stores_to_place_of(load) if self.events[store].value == found.value]
 
     def is_event(self, number):
         return 1 <= number < len(self.events)
@@ -112,7 +119,7 @@ class Checker:
             return True
         if self.is_before(load, source) and not self.is_earlier(source, load):
             return True
-        if any(self.sees(load, store) and (source == 0 or self.is_before(source, store)) for store in self.numbers):
+        if any(self.sees(load, store) and (source == 0 or self.is_before(source, store)) for store in self.stores_to_place_of(load)):
             return True
         return self.is_swap(load) and any(self.is_swap(other) and self.is_same_place(other, load) and other != load and source in read
                                           for other, read in self.sources.items())
