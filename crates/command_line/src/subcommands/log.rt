@@ -47,10 +47,10 @@ For each violation it has a line as violation 1, and lines of the log as
 line 12 0 ld 8192 0. No two violations have a load in common. Loads of values
 that nothing wrote come first. With --trace it prints in place of the report the
 traces of these lines, which `tsobench batch` reads; that of a load of a value
-that nothing wrote has such a load alone. With --evidence it prints evidence of
-one of the violations that the values show, or nothing where it has none, which
-`tsobench verify --log` checks against the log. If the text is no log, a line
-says so, as REFUSED BadLine line 3.
+that nothing wrote has such a load alone. With --evidence it prints evidence by
+values of one violation, which `tsobench verify --log` checks against the log,
+or nothing where it found none. If the text is no log, a line says so, as
+REFUSED BadLine line 3.
 
 Exit status:
   0  no violation was found, which proves nothing about the log
