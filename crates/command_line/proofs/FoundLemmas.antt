@@ -21,14 +21,14 @@ use Rattle.request_options.specs.declared.logs.LogForm.{LogForm}
 use Rattle.request_options.specs.declared.logs.LogOptions.{LogOptions}
 use Rattle.command_line.specs.declared.options.RunOptions.{RunOptions}
 use Rattle.command_line.specs.declared.options.UnitOptions.{UnitOptions}
-use Rattle.command_line.specs.Requests.{Asked, Text, asked_of, batching, capacity_limit, checking, deciding, drain_turns_limit, judging, log_effort_limit, log_violation_limit, logging, number_limit, percent_limit, prints_trace, refusing, repeating, replaying, requested_worker_limit, run_times_limit, running, verifying}
+use Rattle.command_line.specs.Requests.{Asked, Text, asked_of, batching, capacity_limit, checking, deciding, drain_turns_limit, judging, log_effort_limit, log_violation_limit, logging, number_limit, percent_limit, prints_trace, refusing, repeating, replaying, requested_worker_limit, run_times_limit, running, verifying, verifying_log}
 use Rattle.command_line.specs.declared.options.Presentation.{Presentation}
 use Rattle.command_line.specs.declared.options.Printing.{Printing}
 use Rattle.command_line.specs.Pictures.{chosen_picture, picture_form}
 use Rattle.command_line.specs.declared.requests.Request.{Request}
 use Rattle.request_options.specs.declared.outcomes.OutcomeForm.{OutcomeForm}
 use Rattle.command_line.specs.Options.{batch_printing_of, given_number, given_unit, is_true, log_form_of, log_options_in, log_options_of, number_or, outcome_form_of, pair_of, printing_of, run_of, within, workers_of}
-use Rattle.command_line.specs.Subcommands.{batch, batch_texts, check, decision_asked, draw, explain, file_of, log, log_parameters, outcomes, outcomes_asked, presented, replay, run, run_asked, run_parameters, verdict_asked, verify}
+use Rattle.command_line.specs.Subcommands.{batch, batch_texts, check, decision_asked, draw, evidence_asked, explain, file_of, log, log_parameters, outcomes, outcomes_asked, presented, replay, run, run_asked, run_parameters, verdict_asked, verify}
 use Rattle.command_line.specs.Commands.{asked_in, given_in}
 
 -- the file that a value names which was asked for by its id
@@ -104,7 +104,7 @@ pub log_options_found : (given : Text → Option Text) (most effort max_unknown 
     → effort ≡ within 0 log_effort_limit (number_or 100 (given (codes "effort")))
     → max_unknown ≡ within 0 percent_limit (number_or 100 (given (codes "max-unknown")))
     → needs_end ≡ is_true (given (codes "ended"))
-    → form ≡ log_form_of (is_true (given (codes "trace"))) (is_true (given (codes "explain")))
+    → form ≡ log_form_of (is_true (given (codes "trace"))) (is_true (given (codes "explain"))) (is_true (given (codes "evidence")))
     → option_map (λ (f : LogForm). record { most = most; effort = effort; max_unknown = max_unknown; needs_end = needs_end; form = f }) form ≡ log_options_of given
 log_options_found given most effort max_unknown needs_end form most_is effort_is max_unknown_is end_is form_is = rw (most_is, effort_is, max_unknown_is, end_is, form_is) refl
 
@@ -113,10 +113,10 @@ pub check_asked : (rows : List Row) (texts : Option (Option Text × Option Text)
     → nth ≡ given_number (one_of (codes "nth") rows) → option_map_or (λ t. checking t.0 t.1 nth) texts refusing ≡ asked_in check rows
 check_asked rows texts texts_are nth nth_is = rw (texts_are, nth_is) refl
 
--- what `verify` asks for, likewise
-pub verify_asked : (rows : List Row) (texts : Option (Option Text × Option Text)) → texts ≡ pair_of (file_of (first_of (codes "trace") rows)) (file_of (first_of (codes "evidence") rows)) → (nth : Option ℕ)
-    → nth ≡ given_number (one_of (codes "nth") rows) → option_map_or (λ t. verifying t.0 t.1 nth) texts refusing ≡ asked_in verify rows
-verify_asked rows texts texts_are nth nth_is = rw (texts_are, nth_is) refl
+-- what `verify` asks for with these texts, where there are any, by whether the first is a log, and this number
+pub verify_asked : (rows : List Row) (texts : Option (Option Text × Option Text)) → texts ≡ pair_of (file_of (first_of (codes "trace") rows)) (file_of (first_of (codes "evidence") rows)) → (is_log : Bool)
+    → is_log ≡ is_true (one_of (codes "log") rows) → (nth : Option ℕ) → nth ≡ given_number (one_of (codes "nth") rows) → option_map_or (evidence_asked is_log nth) texts refusing ≡ asked_in verify rows
+verify_asked rows texts texts_are is_log log_is nth nth_is = rw (texts_are, log_is, nth_is) refl
 
 -- the texts that arguments name, by those behind references
 now_count : (texts : List (Option (Bor Text))) → count_by is_none (map (option_map (λ (f : Bor Text). f.now)) texts) ≡ count_by is_none texts
@@ -245,8 +245,18 @@ module _ (P : Asked → Type 0) (refused : P refusing) where
       either presentation true = decided presentation _ _ _ _ (omega arith) (omega arith)
       either presentation false = judged presentation _ _ _ (omega arith) (omega arith)
 
+  pub of_verify : ((trace evidence : Option Text) (nth : Option ℕ) → P (verifying trace evidence nth)) → ((log evidence : Option Text) → P (verifying_log log evidence)) → (rows : List Row) → P (asked_in verify rows)
+  of_verify on_trace on_log rows =
+      of_any (evidence_asked (is_true (one_of (codes "log") rows)) (given_number (one_of (codes "nth") rows))) (either (is_true (one_of (codes "log") rows)) (given_number (one_of (codes "nth") rows)))
+      (pair_of (file_of (first_of (codes "trace") rows)) (file_of (first_of (codes "evidence") rows)))
+    where
+      either : (is_log : Bool) (nth : Option ℕ) (texts : Option Text × Option Text) → P (evidence_asked is_log nth texts)
+      either false nth texts = on_trace texts.0 texts.1 nth
+      either true None texts = on_log texts.0 texts.1
+      either true (Some number) texts = refused
+
   pub of_log : ((file : Option Text) (options : LogOptions) → 1 ≤ options.most → options.most ≤ log_violation_limit → options.effort ≤ log_effort_limit → options.max_unknown ≤ percent_limit → P (logging file options)) → (rows : List Row) → P (asked_in log rows)
-  of_log asked rows = go (log_form_of (is_true (given_in log.parameters rows (codes "trace"))) (is_true (given_in log.parameters rows (codes "explain"))))
+  of_log asked rows = go (log_form_of (is_true (given_in log.parameters rows (codes "trace"))) (is_true (given_in log.parameters rows (codes "explain"))) (is_true (given_in log.parameters rows (codes "evidence"))))
     where
       file : Option Text
       file = file_of (first_of (codes "file") rows)

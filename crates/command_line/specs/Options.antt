@@ -103,9 +103,13 @@ batch_printing_of given = record {
   required = given_number (given (codes "require"));
 }
 
--- the form in which violations are shown, by whether the flags of traces and of explanations are used, of which one may be
-abbrev pub log_form_of : Bool → Bool → Option LogForm
-log_form_of trace explain = if trace && explain then None else Some (if trace then forms.Traces else if explain then forms.Explained else forms.Lines)
+-- the form in which violations are shown, by whether the flags of traces, of explanations and of evidence are used, of which one may be
+abbrev pub log_form_of : (trace explain evidence : Bool) → Option LogForm
+log_form_of false false false = Some forms.Lines
+log_form_of true false false = Some forms.Traces
+log_form_of false true false = Some forms.Explained
+log_form_of false false true = Some forms.Evidence
+log_form_of trace explain evidence = None
 
 abbrev pub log_options_in : (Text → Option Text) → LogForm → LogOptions
 log_options_in given form = record {
@@ -119,7 +123,7 @@ log_options_in given form = record {
 abbrev pub log_options_of : (Text → Option Text) → Option LogOptions
 log_options_of given =
     option_map (log_options_in given)
-    (log_form_of (is_true (given (codes "trace"))) (is_true (given (codes "explain"))))
+    (log_form_of (is_true (given (codes "trace"))) (is_true (given (codes "explain"))) (is_true (given (codes "evidence"))))
 
 abbrev pub chosen_run_format : Option Text → RunFormat
 chosen_run_format text = unwrap_or (option_and_then (λ name. value_named name run_formats) text) in_run.Words

@@ -14,7 +14,7 @@ use Rattle.command_line.specs.declared.options.Printing.{Printing}
 use Rattle.command_line.specs.declared.options.Printing.TheVariants.{Report, Trace, Explanation}
 use Rattle.command_line.specs.declared.options.RunOptions.{RunOptions}
 use Rattle.command_line.specs.declared.options.UnitOptions.{UnitOptions}
-use Rattle.command_line.specs.declared.requests.Request.TheVariants.{Judge, Decide, Reduce, Batch, Log, Follow, Check, Verify, Outcomes, Seen, Replay, Run, RunTimes, Make, Campaign, Show, Refuse}
+use Rattle.command_line.specs.declared.requests.Request.TheVariants.{Judge, Decide, Reduce, Batch, Log, Follow, Check, Verify, VerifyLog, Outcomes, Seen, Replay, Run, RunTimes, Make, Campaign, Show, Refuse}
 
 -- the bytes of a text
 abbrev pub Text : Type 0
@@ -51,6 +51,8 @@ pub data Asked : Type 0 where
   checking : Option Text → Option Text → Option ℕ → Asked
   -- to check evidence, the second text, of whether a trace, the first text or the trace of this number in it, has such an order
   verifying : Option Text → Option Text → Option ℕ → Asked
+  -- to check evidence by values, the second text, against a log, the first
+  verifying_log : Option Text → Option Text → Asked
   -- to list the outcomes of a program with these options
   listing : Option Text → OutcomeOptions → Asked
   -- to count how often a stream of traces, the second text, has each trace of the runs of a program, the first, where they reach so many states at most
@@ -88,6 +90,7 @@ asked_of (Log log) = logging (option_map (λ f. f.now) log.file) log.options
 asked_of (Follow follow) = following (option_map (λ f. f.now) follow.file) follow.options
 asked_of (Check check) = checking (files_of check.texts).0 (files_of check.texts).1 check.nth
 asked_of (Verify check) = verifying (files_of check.texts).0 (files_of check.texts).1 check.nth
+asked_of (VerifyLog texts) = verifying_log (files_of texts).0 (files_of texts).1
 asked_of (Outcomes outcomes) = listing (option_map (λ f. f.now) outcomes.program) outcomes.options
 asked_of (Seen seen) = counting (files_of seen.texts).0 (files_of seen.texts).1 seen.limit
 asked_of (Replay options texts) = replaying options (files_of texts).0 (files_of texts).1
@@ -154,6 +157,7 @@ needs (logging file options) = record nothing_needed { texts = file ∷ [] }
 needs (following file options) = record nothing_needed { texts = file ∷ [] }
 needs (checking trace certificate nth) = record nothing_needed { texts = trace ∷ certificate ∷ [] }
 needs (verifying trace evidence nth) = record nothing_needed { texts = trace ∷ evidence ∷ [] }
+needs (verifying_log log evidence) = record nothing_needed { texts = log ∷ evidence ∷ [] }
 needs (listing program options) = record nothing_needed { texts = program ∷ [] }
 needs (counting program stream limit) = record nothing_needed { texts = program ∷ stream ∷ [] }
 needs (replaying options program schedule) = record {

@@ -1,5 +1,5 @@
 -- The subcommands as values: the parameters of each, and what it asks for by their texts.
-use Rattle.std.specs.Prelude.{◌==◌, ℕ, true, false, List, [], ◌∷◌, ◌++◌, Option, Some, None, codes, count_by, find, is_none, map, nat_le, option_and_then, zip, if◌then◌else◌}
+use Rattle.std.specs.Prelude.{◌==◌, ℕ, Bool, true, false, List, [], ◌∷◌, ◌++◌, Option, Some, None, codes, count_by, find, is_none, map, nat_le, option_and_then, zip, if◌then◌else◌}
 use Rattle.std.specs.List.{list_any}
 use Rattle.std.specs.Option.{option_map_or}
 use Rattle.std.specs.Str.{bytes_eq}
@@ -13,7 +13,7 @@ use Rattle.command_line.specs.declared.options.RunOptions.{RunOptions}
 use Rattle.command_line.specs.declared.parameters.NameList.{NameList}
 use Rattle.command_line.specs.declared.parameters.NameList.TheVariants.{Units, Models, Formats, RunFormats}
 use Rattle.command_line.specs.Pictures.{chosen_picture, edges, picture_form}
-use Rattle.command_line.specs.Requests.{Text, Asked, batching, campaigning, capacity_limit, checking, counting, deciding, drain_turns_limit, following, judging, listing, log_effort_limit, log_violation_limit, logging, making, number_limit, percent_limit, prints_trace, reducing, refusing, repeating, replaying, run_times_limit, running, verifying, requested_worker_limit}
+use Rattle.command_line.specs.Requests.{Text, Asked, batching, campaigning, capacity_limit, checking, counting, deciding, drain_turns_limit, following, judging, listing, log_effort_limit, log_violation_limit, logging, making, number_limit, percent_limit, prints_trace, reducing, refusing, repeating, replaying, run_times_limit, running, verifying, verifying_log, requested_worker_limit}
 use Rattle.command_line.specs.Options.{batch_printing_of, campaign_printing_of, chosen_order, drain_turns_of, effort_of, execution_of, follow_options_of, given_number, given_shape, given_unit, is_true, log_options_of, number_or, outcome_form_of, pair_of, run_of, times_of, workers_of}
 
 pub record Subcommand : Type 0 where
@@ -88,14 +88,14 @@ drain_turns = option (codes "drain-turns") (range 0 drain_turns_limit) (Some (co
 abbrev pub times : Parameter NameList
 times = option (codes "times") (range 1 run_times_limit) (Some (codes "1"))
 
--- `[--most K] [--effort N] [--max-unknown PERCENT] [--ended] [--trace|--explain] [--progress] [--verbose]`: 10 violations, an effort of 100 and 100 of a
+-- `[--most K] [--effort N] [--max-unknown PERCENT] [--ended] [--trace|--explain|--evidence] [--progress] [--verbose]`: 10 violations, an effort of 100 and 100 of a
 -- hundred where they are left out
 abbrev pub log_parameters : List (Parameter NameList)
 log_parameters =
     option (codes "most") (range 1 log_violation_limit) (Some (codes "10"))
     ∷ option (codes "effort") (range 0 log_effort_limit) (Some (codes "100"))
     ∷ option (codes "max-unknown") (range 0 percent_limit) (Some (codes "100"))
-    ∷ flag (codes "ended") ∷ flag (codes "trace") ∷ flag (codes "explain") ∷ progress ∷ verbose ∷ []
+    ∷ flag (codes "ended") ∷ flag (codes "trace") ∷ flag (codes "explain") ∷ flag (codes "evidence") ∷ progress ∷ verbose ∷ []
 
 -- `--name N`, which may not be left out
 abbrev pub required : Text → Parameter NameList
@@ -178,7 +178,7 @@ batch = record {
   ask = λ given. batching [] (workers_of given) (batch_printing_of given);
 }
 
--- `log [--most K] [--effort N] [--max-unknown PERCENT] [--ended] [--trace|--explain] [--progress] [--verbose] [FILE]`: finds violations of the log in a file, or on standard input
+-- `log [--most K] [--effort N] [--max-unknown PERCENT] [--ended] [--trace|--explain|--evidence] [--progress] [--verbose] [FILE]`: finds violations of the log in a file, or on standard input
 abbrev pub log : Subcommand
 log = record {
   name = codes "log";
@@ -206,13 +206,21 @@ check = record {
       option_map_or (λ texts. checking texts.0 texts.1 (given_number (given (codes "nth")))) (pair_of (file_of (given (codes "trace"))) (file_of (given (codes "cert")))) refusing;
 }
 
--- `verify [--nth K] [--verbose] TRACE EVIDENCE`: checks evidence on a trace, or on that of a number among those that stand one after the other
+-- to check evidence, the second text, against a log, which has no number, or on a trace
+abbrev pub evidence_asked : (is_log : Bool) → Option ℕ → Option Text × Option Text → Asked
+evidence_asked false nth texts = verifying texts.0 texts.1 nth
+evidence_asked true None texts = verifying_log texts.0 texts.1
+evidence_asked true (Some number) texts = refusing
+
+-- `verify [--log] [--nth K] [--verbose] TRACE EVIDENCE`: checks evidence on a trace, or on that of a number among those that stand one after the other; with
+-- `--log` the first text is a log, and the evidence is by values
 abbrev pub verify : Subcommand
 verify = record {
   name = codes "verify";
-  parameters = nth ∷ verbose ∷ other (codes "trace") true ∷ other (codes "evidence") true ∷ [];
+  parameters = flag (codes "log") ∷ nth ∷ verbose ∷ other (codes "trace") true ∷ other (codes "evidence") true ∷ [];
   ask = λ given.
-      option_map_or (λ texts. verifying texts.0 texts.1 (given_number (given (codes "nth")))) (pair_of (file_of (given (codes "trace"))) (file_of (given (codes "evidence")))) refusing;
+      option_map_or (evidence_asked (is_true (given (codes "log"))) (given_number (given (codes "nth"))))
+      (pair_of (file_of (given (codes "trace"))) (file_of (given (codes "evidence")))) refusing;
 }
 
 -- to count the outcomes of a stream: final states aren't asked for there, since a trace doesn't tell last values

@@ -3,36 +3,38 @@ ghost use Rattle.std.specs.Prelude.{◌≡◌, [], codes, count_by, false, is_no
 ghost use Rattle.clap.specs.Words.{first_of, found_of, one_of, rows_of};
 ghost use Rattle.command_line.specs.Commands.{asked_in, given_in};
 ghost use Rattle.command_line.specs.Requests.{asked_of, files_of, refusing};
-ghost use Rattle.command_line.specs.Options.{batch_printing_of, campaign_printing_of, execution_of, given_shape, given_unit, is_true, log_form_of, log_options_of, method_of, pair_of, printing_of, run_of};
-ghost use Rattle.command_line.specs.Subcommands.{batch, batch_texts, campaign, check, decide, explain, file_of, judge, log, log_parameters, make, presented, reduce, replay, run_parameters, shape_parameters, unit_parameters, verify};
+ghost use Rattle.command_line.specs.Options.{batch_printing_of, campaign_printing_of, execution_of, given_shape, given_unit, is_true, method_of, pair_of, printing_of, run_of};
+ghost use Rattle.command_line.specs.Subcommands.{batch, batch_texts, campaign, check, decide, explain, file_of, judge, make, presented, reduce, replay, run_parameters, shape_parameters, unit_parameters};
 
+pub(crate) use evidence::verify;
 pub(crate) use following::follow;
+pub(crate) use logs::log;
 pub(crate) use outcomes::outcomes;
 pub(crate) use pictures::draw;
 pub(crate) use runs::run;
 
+mod evidence;
 mod following;
+mod logs;
 mod outcomes;
 mod pictures;
 mod runs;
 
 use crate::help;
 use crate::options::{
-    CampaignOptions, MAX_CAPACITY, MAX_LOG_EFFORT, MAX_LOG_VIOLATIONS, MAX_PERCENT, MakeOptions,
-    Presentation, Printing, RunOptions, ShapeNumbers, UnitKind, UnitOptions, kind_named,
+    CampaignOptions, MAX_CAPACITY, MakeOptions, Presentation, Printing, RunOptions, ShapeNumbers,
+    UnitKind, UnitOptions, kind_named,
 };
 use crate::requests::{
-    BatchRequest, CheckRequest, DecideRequest, JudgeRequest, LogRequest, Notes, ReduceRequest,
-    Request, TextPair,
+    BatchRequest, CheckRequest, DecideRequest, JudgeRequest, Notes, ReduceRequest, Request,
+    TextPair,
 };
 use crate::values::{
     decision_effort, drain_turns, effort, file, format, is_used, named_file, nth, number,
     number_within, order, required, workers,
 };
 use clap::ArgMatches;
-use request_options::{
-    BatchMethod, BatchPrinting, CampaignPrinting, Execution, LogForm, LogOptions,
-};
+use request_options::{BatchMethod, BatchPrinting, CampaignPrinting, Execution};
 use std::alloc::{AllocError, Global};
 
 /// Of `judge`.
@@ -106,38 +108,12 @@ pub(crate) fn batch<'a>(alloc: Global, matches: &ArgMatches<'a>) -> Result<Reque
     }
 }
 
-/// Of `log`: a refusal of both flags.
-pub(crate) fn log<'a>(alloc: Global, matches: &ArgMatches<'a>) -> Result<Request<'a>, AllocError>
-    ensures { IfOk result (λ request. asked_of request ≡ asked_in log (rows_of (found_of matches.now))) }
-{
-    match log_options(matches) {
-        Some(options) => Ok(Request::Log(LogRequest {
-            file: file(matches, "file"),
-            options,
-        })),
-        None => refuse(alloc, help::BOTH),
-    }
-}
-
 /// Of `check`: a refusal where both texts would be standard input.
 pub(crate) fn check<'a>(alloc: Global, matches: &ArgMatches<'a>) -> Result<Request<'a>, AllocError>
     ensures { IfOk result (λ request. asked_of request ≡ asked_in check (rows_of (found_of matches.now))) }
 {
     match text_pair(matches, "trace", "cert") {
         Some(texts) => Ok(Request::Check(CheckRequest {
-            texts,
-            nth: nth(matches),
-        })),
-        None => refuse(alloc, help::TWO_INPUTS),
-    }
-}
-
-/// Of `verify`: a refusal where both texts would be standard input.
-pub(crate) fn verify<'a>(alloc: Global, matches: &ArgMatches<'a>) -> Result<Request<'a>, AllocError>
-    ensures { IfOk result (λ request. asked_of request ≡ asked_in verify (rows_of (found_of matches.now))) }
-{
-    match text_pair(matches, "trace", "evidence") {
-        Some(texts) => Ok(Request::Verify(CheckRequest {
             texts,
             nth: nth(matches),
         })),
@@ -349,33 +325,6 @@ fn method_of(effort: Option<u64>) -> BatchMethod
     match effort {
         None => BatchMethod::Judge,
         Some(effort) => BatchMethod::Decide { effort },
-    }
-}
-
-/// What the options say of what is shown of a log; none with both flags, of traces and of explanations.
-fn log_options(matches: &ArgMatches<'_>) -> Option<LogOptions>
-    ensures { result ≡ log_options_of (given_in log_parameters (rows_of (found_of matches.now))) }
-{
-    let form = log_form(matches)?;
-    Some(LogOptions {
-        most: number_within(matches, "most", 10, 1, MAX_LOG_VIOLATIONS as u64) as usize,
-        effort: number_within(matches, "effort", 100, 0, MAX_LOG_EFFORT as u64) as usize,
-        max_unknown: number_within(matches, "max-unknown", 100, 0, MAX_PERCENT as u64) as usize,
-        needs_end: is_used(matches, "ended"),
-        form,
-    })
-}
-
-/// In which form violations are shown: by their lines without the flags of traces and explanations, and in none with both.
-fn log_form(matches: &ArgMatches<'_>) -> Option<LogForm>
-    ensures { let rows = rows_of (found_of matches.now) in result ≡ log_form_of (is_true (one_of (codes "trace") rows))
-        (is_true (one_of (codes "explain") rows)) }
-{
-    match (is_used(matches, "trace"), is_used(matches, "explain")) {
-        (false, false) => Some(LogForm::Lines),
-        (true, false) => Some(LogForm::Traces),
-        (false, true) => Some(LogForm::Explained),
-        (true, true) => None,
     }
 }
 

@@ -91,6 +91,20 @@ error: the argument '--edges field' cannot be used with '--decide'
 For more information, try '--help'.
 ";
 
+/// The refusal of `--log` with `--nth`.
+pub(crate) const NUMBERED_LOG: &str = "\
+error: the argument '--log' cannot be used with '--nth <K>'
+
+For more information, try '--help'.
+";
+
+/// The refusal of two of `--trace`, `--explain` and `--evidence`.
+pub(crate) const SEVERAL_FORMS: &str = "\
+error: one of '--trace', '--explain' and '--evidence' may be used, and no more
+
+For more information, try '--help'.
+";
+
 /// The refusal of `--trace` with `--explain`.
 pub(crate) const BOTH: &str = "\
 error: the argument '--trace' cannot be used with '--explain'

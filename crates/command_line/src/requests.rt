@@ -169,6 +169,8 @@ pub enum Request<'a> {
     Check(CheckRequest<'a>),
     /// To check evidence on a trace: that it has an order that meets the axioms of its memory model, or none.
     Verify(CheckRequest<'a>),
+    /// To check evidence by values against a log.
+    VerifyLog(TextPair<'a>),
     /// To list the outcomes of a program.
     Outcomes(OutcomesRequest<'a>),
     /// To count how often a stream of traces has each outcome of a program.

@@ -1,5 +1,5 @@
-//! `log [--most K] [--effort N] [--max-unknown PERCENT] [--ended] [--trace|--explain] [--progress] [--verbose] [FILE]`: finds
-//! violations of a log.
+//! `log [--most K] [--effort N] [--max-unknown PERCENT] [--ended] [--trace|--explain|--evidence] [--progress] [--verbose] [FILE]`:
+//! finds violations of a log.
 
 use crate::help::Help;
 use crate::options::{MAX_LOG_EFFORT, MAX_LOG_VIOLATIONS, MAX_PERCENT};
@@ -47,8 +47,10 @@ For each violation it has a line as violation 1, and lines of the log as
 line 12 0 ld 8192 0. No two violations have a load in common. Loads of values
 that nothing wrote come first. With --trace it prints in place of the report the
 traces of these lines, which `tsobench batch` reads; that of a load of a value
-that nothing wrote has such a load alone. If the text is no log, a line says so,
-as REFUSED BadLine line 3.
+that nothing wrote has such a load alone. With --evidence it prints evidence by
+values of one violation, which `tsobench verify --log` checks against the log,
+or nothing where it found none. If the text is no log, a line says so, as
+REFUSED BadLine line 3.
 
 Exit status:
   0  no violation was found, which proves nothing about the log
@@ -102,6 +104,10 @@ pub(crate) static LOG: Description = Description {
         Parameter::Flag {
             name: "explain",
             help: "Explains each violation after its lines",
+        },
+        Parameter::Flag {
+            name: "evidence",
+            help: "Prints evidence by values of a violation, and no report",
         },
         shared::PROGRESS,
         shared::VERBOSE,

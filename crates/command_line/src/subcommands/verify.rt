@@ -1,5 +1,5 @@
-//! `verify [--nth K] [--verbose] TRACE EVIDENCE`: checks evidence of whether a trace has an order that meets the axioms of
-//! its memory model.
+//! `verify [--log] [--nth K] [--verbose] TRACE EVIDENCE`: checks evidence of whether a trace, or a log, has an order that meets
+//! the axioms of its memory model.
 
 use crate::help::Help;
 use crate::parameters::{Description, Parameter};
@@ -22,15 +22,27 @@ the evidence isn't read. One of the two may be -, which is standard input. With
 --nth K the evidence is on the K-th of the traces that stand one after the
 other, as `tsobench judge` judges it.
 
+With --log the first text is a log, of any length, and the evidence is that of
+`tsobench log --evidence`; --nth may not stand beside it. It prints one line:
+
+  REFUTATION HOLDS                       no order of the log meets the axioms
+  REFUTATION REFUSED StepRefused line K  a step of the evidence does not follow
+  REFUTATION REFUSED EndRefused line K   its end does not follow from its steps
+  EVIDENCE REFUSED BadLine line N        it spells no evidence by values; there
+                                         may be NoEvent, NoEnd or AfterEnd too
+  REFUSED BadLine line N                 the first text is no log
+
 Exit status:
   0  the order holds: the trace is consistent
-  2  the trace, the evidence or the command line was refused
-  3  the refutation holds: the trace violates its memory model
+  2  the trace, the log, the evidence or the command line was refused
+  3  the refutation holds: the trace or the log violates its memory model
   4  a fault, which one line on standard error names, as FAULT Read
 
 Example:
   tsobench decide TRACE | sed 1,3d > EVIDENCE
-  tsobench verify TRACE EVIDENCE";
+  tsobench verify TRACE EVIDENCE
+  tsobench log --evidence LOG > EVIDENCE
+  tsobench verify --log LOG EVIDENCE";
 
 /// What the help says of it.
 pub(crate) static HELP: Help = Help {
@@ -42,19 +54,23 @@ pub(crate) static HELP: Help = Help {
 pub(crate) static VERIFY: Description = Description {
     help_option: ["verify", "--help"],
     parameters: &[
+        Parameter::Flag {
+            name: "log",
+            help: "Checks evidence by values against a log",
+        },
         shared::NTH,
         shared::VERBOSE,
         Parameter::Other {
             name: "trace",
             value_name: "TRACE",
             required: true,
-            help: "The text of a trace",
+            help: "The text of a trace, or of a log",
         },
         Parameter::Other {
             name: "evidence",
             value_name: "EVIDENCE",
             required: true,
-            help: "The text of an order, a certificate or a refutation",
+            help: "The text of an order, a certificate, a refutation or evidence by values",
         },
     ],
 };

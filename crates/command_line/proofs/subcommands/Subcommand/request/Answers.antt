@@ -1,6 +1,6 @@
 use Rattle.clap.specs.Words.{found_of, rows_of}
 use Rattle.command_line.specs.Requests.{HasDrainTurns, HasLogRanges, HasOneInput, HasUnitRanges, HasWorkers}
-use Rattle.command_line.proofs.FoundLemmas.{of_batch, of_draw, of_log, of_replay, of_request, of_run}
+use Rattle.command_line.proofs.FoundLemmas.{of_batch, of_draw, of_log, of_replay, of_request, of_run, of_verify}
 use Rattle.command_line.proofs.subcommands.Subcommand.request.Goals as goal
 
 pub returns-in-Log-clause-workers : goal.returns-in-Log-clause-workers
@@ -85,6 +85,12 @@ returns-in-Check-clause-asked c = rw c.in-Check.is c.check.ensures
 
 pub returns-in-Verify-clause-asked : goal.returns-in-Verify-clause-asked
 returns-in-Verify-clause-asked c = rw c.in-Verify.is c.verify.ensures
+
+pub returns-in-Verify-clause-workers : goal.returns-in-Verify-clause-workers
+returns-in-Verify-clause-workers c = of_request HasWorkers _ (of_verify HasWorkers tt (λ trace evidence nth. tt) (λ log evidence. tt) (rows_of (found_of c.args.matches.now))) _ c.verify.ensures
+
+pub returns-in-Verify-clause-unit : goal.returns-in-Verify-clause-unit
+returns-in-Verify-clause-unit c = of_request HasUnitRanges _ (of_verify HasUnitRanges tt (λ trace evidence nth. tt) (λ log evidence. tt) (rows_of (found_of c.args.matches.now))) _ c.verify.ensures
 
 pub returns-in-Draw-clause-asked : goal.returns-in-Draw-clause-asked
 returns-in-Draw-clause-asked c = rw c.in-Draw.is c.draw.ensures

@@ -3,7 +3,7 @@ use Rattle.clap.specs.Words.{found_of, rows_of}
 use Rattle.command_line.specs.Commands.{given_in}
 use Rattle.command_line.specs.Subcommands.{log_parameters}
 use Rattle.command_line.proofs.FoundLemmas.{log_options_found}
-use Rattle.command_line.proofs.found.log_options.Goals as goal
+use Rattle.command_line.proofs.found.logs.log_options.Goals as goal
 
 pub returns : goal.returns
 returns c =
