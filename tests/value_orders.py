@@ -103,6 +103,9 @@ class Ordering:
         address = self.log.events[load].address
         return memory.get(address, self.log.first_value(address))
 
+    def after_store(self, memory, event):
+        return {**memory, self.log.events[event].address: self.log.events[event].value}
+
     def may_stand(self, event, placed, memory, swap):
         """Whether an event may stand next, where this swap's store is to come before all others."""
         if placed >> event & 1 or self.before[event] & ~placed:
@@ -137,7 +140,7 @@ class Ordering:
             if found.is_load:
                 is_found = self.exists(placed | 1 << event, memory, event + 1)
             else:
-                is_found = self.exists(placed | 1 << event, {**memory, found.address: found.value}, None)
+                is_found = self.exists(placed | 1 << event, self.after_store(memory, event), None)
             if is_found:
                 return True
         return False

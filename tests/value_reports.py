@@ -46,6 +46,15 @@ def without_repeated(operations):
     return left
 
 
+def log_looked_at(text):
+    """The log without loads that repeat others, and with swaps that store what they read as loads under TSO; its lines have other
+    numbers, and its processors too."""
+    lines = [line for line in text.splitlines() if line.startswith(("model", "init"))]
+    for processor, operations in enumerate(operations_of(text)):
+        lines += [f"{processor} {' '.join(words)}" for words in without_repeated(operations)[::-1]]
+    return "".join(line + "\n" for line in lines)
+
+
 def repeated_in(text):
     """How many loads repeat others."""
     return sum(len(operations) - len(without_repeated(operations)) for operations in operations_of(text))
