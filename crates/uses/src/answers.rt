@@ -1,5 +1,6 @@
 //! Of the crates that answer a question about a text or a stream.
 
+use log_evidence::check_log_evidence;
 use log_reports::{AsExplainedLog, LogReporting, report_log};
 use outcome_reports::{count_seen, list_outcomes};
 use progress_meters::NoMeter;
@@ -90,6 +91,17 @@ pub fn report_a_log<H: Threads + Wait + AllocGlobal, R: Read, W: Write, E: Write
     let reporting = LogReporting { options, rendering };
     let verdict = report_log(rt, &reporting, &NoMeter, reader, writer, errors)?;
     Ok(verdict)
+}
+
+/// `log_evidence`: whether a reader's evidence by values holds of the log of another.
+pub fn check_evidence_on_a_log<L: Read, E: Read, W: Write>(
+    alloc: Global,
+    logs: &mut L,
+    evidence: &mut E,
+    writer: &mut W,
+) -> Result<Answer, Fault> {
+    let answer = check_log_evidence(alloc, logs, evidence, writer)?;
+    Ok(answer)
 }
 
 /// `run_following`: whether the lines of a reader's run are steps of the machine, up to the first that is none.

@@ -1,0 +1,3 @@
+pub mod CheckFacts
+pub mod LogRefusals
+pub mod ReaderFacts
