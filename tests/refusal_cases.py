@@ -68,6 +68,10 @@ WITH_REFUSED_REQUESTS = "\n".join([
 3 log files/log_store_buffering.log
 3 log --trace files/log_message_passing.log
 3 log --explain files/log_pso_with_stbar.log
+3 log --explain files/log_repeated_loads.log
+3 log --evidence files/log_message_passing.log
+3 verify --log files/log_message_passing.log files/log_message_passing.evidence
+2 verify --log files/log_unwritten_once.log files/log_message_passing.evidence
 3 log --most 2 files/log_unwritten.log
 0 log files/log_swap_lock.log
 2 log examples/missing_end.trace
@@ -139,6 +143,7 @@ OutOfMemory explain {SWAPS}
 OutOfMemory draw {SWAPS}
 OutOfMemory batch files/batch_no_violation.stream
 OutOfMemory log files/log_store_buffering.log
+OutOfMemory verify --log files/log_message_passing.log files/log_message_passing.evidence
 OutOfMemory check examples/unwritten_load.trace files/unwritten_1.certificate
 OutOfMemory replay --unit serial examples/replay_serial.program examples/replay_serial.schedule
 OutOfMemory run --unit buffer --seed 1 examples/replay_serial.program

@@ -14,30 +14,37 @@ import sys
 
 
 class Event:
-    """A load or a store: the processor, whether it is a load and one of a swap, the address, the value, and how many barriers of
-    each kind its processor has before it."""
+    """A load or a store: the line, the processor, whether it is a load and one of a swap, the address, the value, and how many
+    barriers of each kind its processor has before it."""
 
-    def __init__(self, processor, is_load, is_swap, address, value, bars, stbars):
-        self.processor, self.is_load, self.is_swap, self.address, self.value = processor, is_load, is_swap, address, value
-        self.bars, self.stbars = bars, stbars
+    def __init__(self, place, is_load, is_swap, address, value, barriers):
+        self.line, self.processor = place
+        self.is_load, self.is_swap, self.address, self.value = is_load, is_swap, address, value
+        self.bars, self.stbars = barriers
 
 
 class ValueLog:
-    """A log: whether its model is PSO, the first values that aren't 0, and its events, the first of which has number 1."""
+    """A log: whether its model is PSO, the first values that aren't 0, and its events, the first of which has number 1. Where idle
+    swaps are read, a swap that stores what it read is a barrier and a load under TSO."""
 
-    def __init__(self, text):
-        self.is_pso, self.first, lists = False, {}, {}
-        for line in text.splitlines():
-            words = line.split()
+    def __init__(self, text, reads_idle_swaps=False):
+        self.is_pso, self.first, lists, left_out = False, {}, {}, set()
+        for number, line in enumerate(text.splitlines(), start=1):
+            words = line.partition(" #")[0].split()
             if not words or words[0][0] == "#" or words == ["end"]:
                 continue
             if words[0] == "model":
                 self.is_pso = words[1] == "pso"
             elif words[0] == "init":
                 self.first[int(words[1], 0)] = int(words[2], 0)
+            elif words[1] == "un":
+                left_out.add(int(words[2], 0))
             else:
-                lists.setdefault(int(words[0], 0), []).append(words[1:])
-        self.events = [event for processor in sorted(lists) for event in events_of(processor, lists[processor])]
+                lists.setdefault(int(words[0], 0), []).append((number, words[1], [int(word, 0) for word in words[2:]]))
+        is_read = reads_idle_swaps and not self.is_pso
+        for processor, operations in lists.items():
+            lists[processor] = [operation for operation in operations if not operation[2] or operation[2][0] not in left_out]
+        self.events = [event for processor in sorted(lists) for event in events_of(processor, lists[processor], is_read)]
 
     def first_value(self, address):
         return self.first.get(address, 0)
@@ -54,20 +61,23 @@ class ValueLog:
         return not self.is_pso or first.address == second.address or first.stbars < second.stbars
 
 
-def events_of(processor, operations):
+def events_of(processor, operations, reads_idle_swaps):
     """The events of a processor's operations."""
     bars = stbars = 0
-    for kind, *numbers in operations:
-        numbers = [int(number, 0) for number in numbers]
+    for line, kind, numbers in operations:
+        place = line, processor
         if kind == "mb":
             bars += 1
         elif kind == "stbar":
             stbars += 1
-        elif kind == "sw":
-            yield Event(processor, True, True, numbers[0], numbers[1], bars, stbars)
-            yield Event(processor, False, True, numbers[0], numbers[2], bars, stbars)
+        elif kind != "sw":
+            yield Event(place, kind == "ld", False, *numbers, (bars, stbars))
+        elif reads_idle_swaps and numbers[1] == numbers[2]:
+            bars += 1
+            yield Event(place, True, False, *numbers[:2], (bars, stbars))
         else:
-            yield Event(processor, kind == "ld", False, *numbers, bars, stbars)
+            yield Event(place, True, True, *numbers[:2], (bars, stbars))
+            yield Event(place, False, True, numbers[0], numbers[2], (bars, stbars))
 
 
 class Ordering:

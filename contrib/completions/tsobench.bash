@@ -75,10 +75,10 @@ _tsobench() {
         draw/*) words='--edges --decide --effort --workers --nth --verbose -h --help' files=yes ;;
         reduce/*) words='--nth --verbose -h --help' files=yes ;;
         batch/*) words='--workers --format --quiet --violations --decide --effort --require --progress --verbose -h --help' files=yes ;;
-        log/*) words='--most --effort --max-unknown --ended --trace --explain --progress --verbose -h --help' files=yes ;;
+        log/*) words='--most --effort --max-unknown --ended --trace --explain --evidence --progress --verbose -h --help' files=yes ;;
         follow/*) words='--most --explain --format --ended --fail-fast --progress --verbose -h --help' files=yes ;;
         check/*) words='--nth --verbose -h --help' files=yes ;;
-        verify/*) words='--nth --verbose -h --help' files=yes ;;
+        verify/*) words='--log --nth --verbose -h --help' files=yes ;;
         outcomes/*) words='--states --limit --seen --verbose -h --help' files=yes ;;
         replay/*) words='--unit --capacity --trigger --workers --trace --explain --with-trace --verbose -h --help' files=yes ;;
         run/*) words='--unit --capacity --trigger --workers --trace --explain --with-trace --verbose --seed --drain-turns --times -h --help' files=yes ;;

@@ -1,5 +1,5 @@
 -- What is found in a log.
-use Rattle.std.specs.Prelude.{◌≡◌, ◌≤◌, ◌||◌, not, ℕ, Bool, true, false, []}
+use Rattle.std.specs.Prelude.{◌≡◌, ◌⊎◌, ◌≤◌, ◌+◌, ◌||◌, not, ℕ, Bool, true, false, []}
 use Rattle.std.specs.List.{All, count_by}
 use Rattle.line_text.specs.Lines.{is_empty}
 use Rattle.tso_ops.specs.Events.{IsUnwritten}
@@ -10,6 +10,7 @@ use Rattle.log_selections.specs.Shown.{AreLinesOf, IsSelected}
 use Rattle.log_selections.specs.Sources.{IsAmbiguousCount}
 use Rattle.log_selections.specs.Unwritten.{IsUnwrittenLoad}
 use Rattle.log_thinning.specs.IdleSwaps.{with_idle_swaps_read}
+use Rattle.log_thinning.specs.Thinned.{operation_count, thinned}
 use Rattle.value_evidence.specs.Evidence.{EvidenceHolds}
 use Rattle.log_reports.specs.ValueViolations.{AreShownOf}
 use Rattle.log_reports.specs.declared.findings.LogFindings.{LogFindings}
@@ -55,6 +56,11 @@ pub record AreWithin (most : ℕ) (findings : LogFindings) : Type 0 where
 -- No more loads are unknown than have several sources by their values.
 abbrev pub IsUnknownCount : NumberedLog → ℕ → Type 0
 IsUnknownCount log unknown = (ambiguous : ℕ) × IsAmbiguousCount log ambiguous × (unknown ≤ ambiguous)
+
+-- So many loads are passed over: none, or those that are dropped of the log with its idle swaps read as loads, since they only repeat others.
+abbrev pub IsRepeatedCount : NumberedLog → ℕ → Type 0
+IsRepeatedCount log repeated =
+    (repeated ≡ 0) ⊎ (repeated + operation_count (thinned (with_idle_swaps_read log)) ≡ operation_count (with_idle_swaps_read log))
 
 -- Where nothing is listed, each load read what something wrote, or it is noted that one didn't.
 abbrev pub AreWrittenIn : NumberedLog → LogFindings → Type 0

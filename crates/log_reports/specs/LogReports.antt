@@ -13,7 +13,7 @@ use Rattle.request_options.specs.declared.logs.LogOptions.{LogOptions}
 use Rattle.trace_reports.specs.Renderings.{RendersRefusal}
 use Rattle.trace_reports.specs.declared.answers.Answer.{Answer}
 use Rattle.trace_reports.specs.declared.answers.Answer.TheVariants.{Clear, Undecided, Violation, Refused}
-use Rattle.log_reports.specs.Findings.{AreFindings, AreWithin, AreWrittenIn, IsUnknownCount, has_unjudged}
+use Rattle.log_reports.specs.Findings.{AreFindings, AreWithin, AreWrittenIn, IsRepeatedCount, IsUnknownCount, has_unjudged}
 use Rattle.log_reports.specs.LogCounts.{counts_of, is_nothing_judged, is_too_unknown}
 
 -- The whole log was searched, what was found could be judged, some load was, and no larger share of the loads is unknown than allowed.
@@ -32,7 +32,7 @@ RendersLog = NumberedLog → LogFound → List ℕ
 
 -- what was found in the log, and the tags of its lines
 abbrev pub found_in : NumberedLog → LogOptions → LineTags → LogFindings → LogFound
-found_in log options tags findings = record { options = options; counts = counts_of log findings.unknown; findings = findings; tags = tags }
+found_in log options tags findings = record { options = options; counts = counts_of log findings.unknown findings.repeated; findings = findings; tags = tags }
 
 -- The text is rendered of the log by what was found in it, and by the tags of these bytes, which spell it.
 pub record IsReportOf (renders : RendersLog) (log : NumberedLog) (bytes : List ℕ) (options : LogOptions) (text : List ℕ) (verdict : Answer) : Type 0 where
@@ -44,6 +44,8 @@ pub record IsReportOf (renders : RendersLog) (log : NumberedLog) (bytes : List �
   pub tagged : AreTagsOf bytes tags
   -- no more loads are said to be unknown than have several sources by their values
   pub unknown : IsUnknownCount log findings.unknown
+  -- those that the search by values passed over only repeat others
+  pub repeated : IsRepeatedCount log findings.repeated
   pub says : text ≡ renders log (found_in log options tags findings)
   pub gives : verdict ≡ verdict_of (found_in log options tags findings)
 

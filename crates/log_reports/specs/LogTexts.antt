@@ -1,16 +1,21 @@
--- What is said of a log in each form: by the lines of its violations, with explanations after them, or by the texts of their traces.
-use Rattle.std.specs.Prelude.{ℕ, Bool, true, false, List, [], ◌∷◌, ◌++◌, length, ◌+◌, cond, codes}
+-- What is said of a log in each form: by the lines of its violations, with explanations after them, or by the texts of their traces or of their evidence.
+use Rattle.std.specs.Prelude.{ℕ, ◌==◌, Bool, true, false, List, [], ◌∷◌, ◌++◌, length, ◌+◌, cond, codes}
 use Rattle.std.specs.List.{flat_map}
 use Rattle.std.specs.Option.{option_map_or}
 use Rattle.std.specs.Fmt.{decimal}
 use Rattle.line_text.specs.Lines.{is_empty}
 use Rattle.tso_ops.specs.declared.settings.Order.{Order}
 use Rattle.tso_text.specs.Printed.{trace_text}
+use Rattle.log_text.specs.LogValues.{NumberedLog}
 use Rattle.log_text.specs.Tags.{tag_in}
 use Rattle.log_selections.specs.declared.selecting.Selected.{Selected}
 use Rattle.log_selections.specs.declared.unwritten.LoggedStore.{LoggedStore}
 use Rattle.log_selections.specs.declared.unwritten.UnwrittenLoad.{UnwrittenLoad}
 use Rattle.log_selections.specs.Unwritten.{lone_load}
+use Rattle.log_thinning.specs.IdleSwaps.{with_idle_swaps_read}
+use Rattle.value_texts.specs.Names.{event_names}
+use Rattle.value_texts.specs.Printed.{evidence_value, value_evidence_text}
+use Rattle.value_texts.specs.declared.names.EventName.{EventName}
 use Rattle.log_reports.specs.LogCounts.{is_nothing_judged, is_too_unknown}
 use Rattle.log_reports.specs.Lines.{log_line_text, log_lines_text}
 use Rattle.log_reports.specs.Namings.{naming_of_shown}
@@ -58,10 +63,18 @@ numbered_from text word number (x ∷ xs) = (word ++ decimal number ++ codes "\n
 
 -- ---- the report
 
-unfoldable pub counts_text : LogCounts → List ℕ
-counts_text counts = joined (
+-- what the log has
+unfoldable pub sizes_text : LogCounts → List ℕ
+sizes_text counts = joined (
     codes "TSO LOG 1\nprocessors " ∷ decimal counts.processors ∷ codes " operations " ∷ decimal counts.operations ∷ codes " loads " ∷ decimal counts.loads
     ∷ codes " unknown " ∷ decimal counts.unknown ∷ codes " left " ∷ decimal counts.left_out ∷ codes "\n" ∷ [])
+
+-- how many loads were passed over, where some were
+abbrev pub repeated_text : ℕ → List ℕ
+repeated_text repeated = cond (repeated == 0) [] (codes "repeated " ++ decimal repeated ++ codes "\n")
+
+abbrev pub counts_text : LogCounts → List ℕ
+counts_text counts = sizes_text counts ++ repeated_text counts.repeated
 
 -- that the rest of the log wasn't judged, or what is no trace
 abbrev pub unsearched_text : LogFindings → List ℕ
@@ -108,6 +121,16 @@ violation_trace_text order (ByValues shown) = []
 abbrev pub violation_traces_text : Order → LogFindings → List ℕ
 violation_traces_text order findings = flat_map (violation_trace_text order) findings.violations.items
 
+-- the text of a violation's evidence by values, of a log whose events have these names; other violations have none
+abbrev pub violation_evidence_text : List EventName → LogViolation → List ℕ
+violation_evidence_text names (Selection selected finding) = []
+violation_evidence_text names (Unwritten load) = []
+violation_evidence_text names (ByValues shown) = value_evidence_text names (evidence_value shown.evidence)
+
+-- the same of each violation of the log, whose idle swaps are read as loads
+abbrev pub violation_evidence_texts : NumberedLog → List LogViolation → List ℕ
+violation_evidence_texts log violations = flat_map (violation_evidence_text (event_names (with_idle_swaps_read log))) violations
+
 -- ---- the forms
 
 abbrev pub log_lines : RendersLog
@@ -118,3 +141,6 @@ log_explained log found = report_text true found
 
 abbrev pub log_traces : RendersLog
 log_traces log found = violation_traces_text log.order found.findings
+
+abbrev pub log_evidence_text : RendersLog
+log_evidence_text log found = violation_evidence_texts log found.findings.violations.items

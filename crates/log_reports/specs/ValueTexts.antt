@@ -27,9 +27,9 @@ abbrev pub sources_text : (ℕ → List ℕ) → ShownSources → List ℕ
 sources_text tags s =
     log_line_text tags s.load ++ eliminated_text s ++ source_found_text s.source ++ log_lines_text tags s.before.items ++ log_lines_text tags s.after.items
 
--- the lines of a cycle, if there is one, and the loads that it needs
+-- a line that says what kind of violation it is, the lines of a cycle, if there is one, and the loads that it needs
 abbrev pub evidence_lines_text : (ℕ → List ℕ) → ShownEvidence → List ℕ
-evidence_lines_text tags shown = log_lines_text tags shown.cycle.items ++ flat_map (sources_text tags) shown.loads.items
+evidence_lines_text tags shown = codes "by values\n" ++ log_lines_text tags shown.cycle.items ++ flat_map (sources_text tags) shown.loads.items
 
 -- ---- explanations
 

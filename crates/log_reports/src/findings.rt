@@ -3,7 +3,7 @@ ghost use Rattle.std.specs.Prelude.{◌≡◌, ◌≤◌, ◌⊎◌, ◌+◌, Bo
 ghost use Rattle.std.specs.List.{count_by};
 ghost use Rattle.text_streams.specs.declared.faults.Fault.{Fault};
 ghost use Rattle.log_text.specs.LogValues.{NumberedLog};
-ghost use Rattle.log_reports.specs.Findings.{AreFindings, AreWithin, AreWrittenIn, IsListed, IsUnknownCount, has_unjudged, is_by_values, is_selection, is_unwritten};
+ghost use Rattle.log_reports.specs.Findings.{AreFindings, AreWithin, AreWrittenIn, IsListed, IsRepeatedCount, IsUnknownCount, has_unjudged, is_by_values, is_selection, is_unwritten};
 ghost use Rattle.log_reports.specs.declared.findings.LogViolation.{LogViolation};
 
 use crate::judging::TraceJudge;
@@ -58,15 +58,18 @@ pub struct LogFindings {
     pub has_unlisted: bool,
     /// Whether evidence by values was found, but its checker refused it: a fault of the search.
     pub has_refused: bool,
-    /// How many loads have a source that isn't known. Where something is listed that isn't by values these are all that have
-    /// several sources by their values.
+    /// How many loads have a source that isn't known. Where the log wasn't searched by its values these are all that have several
+    /// sources by their values.
     pub unknown: usize,
+    /// How many loads the search by values passed over, since each says no more than another one of its processor near by.
+    pub repeated: usize,
 }
 
 /// Finds violations of a log: first loads of what nothing wrote, in the order of their processors, and then what the search
 /// finds, with the effort that the options allow it; of each kind as many at most as they say. Where nothing was found, and some
-/// loads have several sources by their values, a second search finds the first violation that these values show. The meter hears of
-/// each operation once in each search, when the search passed it, and before the second how many there are in both.
+/// loads have several sources by their values, or evidence by values is asked for, a second search finds the first violation that
+/// the values show. The meter hears of each operation once in each search, when the search passed it, and before the second how many
+/// there are in both.
 ///
 /// Faults: OutOfMemory where an allocation was refused, and NoThread where the system refused a thread.
 pub fn find_violations<H: Threads + Wait, M: TotalMeter>(
@@ -79,6 +82,7 @@ pub fn find_violations<H: Threads + Wait, M: TotalMeter>(
     ensures found { IfOk result (AreFindings known.now) }
     ensures few { IfOk result (AreWithin options.most) }
     ensures unknown { IfOk result (λ findings. IsUnknownCount known.now findings.unknown) }
+    ensures repeated { IfOk result (λ findings. IsRepeatedCount known.now findings.repeated) }
     ensures written { IfOk result (AreWrittenIn known.now) }
     ensures fault { IfErr result (λ fault. (fault ≡ Fault.OutOfMemory) ⊎ (fault ≡ Fault.NoThread)) }
 {
@@ -93,12 +97,14 @@ pub fn find_violations<H: Threads + Wait, M: TotalMeter>(
         has_unlisted: false,
         has_refused: false,
         unknown: 0,
+        repeated: 0,
     };
     findings.list_unwritten(alloc, known, options.most)?;
     findings.search(rt, alloc, known, options, meter)?;
-    let unknown = findings.search_values(alloc, known, options, meter)?;
+    let passed = findings.search_values(alloc, known, options, meter)?;
     findings.note_unlisted(known);
-    findings.unknown = unknown;
+    findings.unknown = passed.unknown;
+    findings.repeated = passed.repeated;
     Ok(findings)
 }
 

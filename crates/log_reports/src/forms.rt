@@ -1,13 +1,14 @@
-//! The forms in which is rendered what was found in a log: as lines, as lines with explanations, or as traces.
+//! The forms in which is rendered what was found in a log: as lines, as lines with explanations, as traces, or as evidence by values.
 ghost use Rattle.std.specs.Prelude.{refl};
 ghost use Rattle.trace_reports.specs.Reports.{rendered_refusal};
 ghost use Rattle.log_reports.specs.LogRefusals.{log_refusal_explained, log_refusal_whole};
-ghost use Rattle.log_reports.specs.LogTexts.{log_explained, log_lines, log_traces};
+ghost use Rattle.log_reports.specs.LogTexts.{log_evidence_text, log_explained, log_lines, log_traces};
 
 use crate::counts::LogCounts;
 use crate::findings::LogFindings;
 use crate::refusals::explain_log_refusal;
 use crate::rendering::{render_report, render_traces};
+use crate::value_rendering::render_evidence;
 use log_selections::KnownLog;
 use log_text::LineTags;
 use request_options::LogOptions;
@@ -41,6 +42,11 @@ pub struct AsExplainedLog;
 /// has a trace with such a load alone.
 #[derive(Clone, Copy)]
 pub struct AsLogTraces;
+
+/// The text of the evidence by values of a violation, and no report; or the line of a refusal. Nothing where no evidence by values
+/// was found.
+#[derive(Clone, Copy)]
+pub struct AsLogEvidence;
 
 impl Rendering<KnownLog, LogFound> for AsLogLines {
     ghost rendered = { λ _. log_lines };
@@ -108,6 +114,32 @@ impl Rendering<KnownLog, LogFound> for AsLogTraces {
         found: &LogFound,
     ) -> Result<String, OutOfMemory> {
         render_traces(alloc, known.log().order, &found.findings)
+    }
+
+    fn text_of_refusal(
+        &self,
+        alloc: Global,
+        input: &[u8],
+        fault: TextFault,
+    ) -> Result<String, OutOfMemory> {
+        AsReport.text_of_refusal(alloc, input, fault)
+    }
+
+    ghost whole = { λ _ a b why. refl };
+}
+
+impl Rendering<KnownLog, LogFound> for AsLogEvidence {
+    ghost rendered = { λ _. log_evidence_text };
+
+    ghost refused = { λ _. rendered_refusal };
+
+    fn text_of_found(
+        &self,
+        alloc: Global,
+        known: &KnownLog,
+        found: &LogFound,
+    ) -> Result<String, OutOfMemory> {
+        render_evidence(alloc, known.log(), &found.findings.violations)
     }
 
     fn text_of_refusal(

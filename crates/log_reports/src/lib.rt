@@ -5,7 +5,7 @@
 
 pub use counts::LogCounts;
 pub use findings::{LogFindings, LogViolation, find_violations};
-pub use forms::{AsExplainedLog, AsLogLines, AsLogTraces, LogFound};
+pub use forms::{AsExplainedLog, AsLogEvidence, AsLogLines, AsLogTraces, LogFound};
 pub use reports::{LogReporting, report_log};
 pub use value_violations::{ShownEvidence, ShownSource, ShownSources};
 
@@ -20,6 +20,7 @@ mod notes;
 mod refusal_sentences;
 mod refusals;
 mod rendering;
+mod renumbering;
 mod reports;
 mod value_rendering;
 mod value_searching;

@@ -9,14 +9,15 @@ use std::alloc::{AllocError, Global};
 use std::fmt::Write;
 use tso_ops::OutOfMemory;
 
-/// Lines on what was left out of what is printed, and why; nothing where all is there. If what is printed doesn't name lines, there
-/// is first a line for each trace with the lines of the log that it has. OutOfMemory where an allocation was refused.
+/// Lines on what was left out of what is printed, and why; nothing where all is there. If traces are printed, there is first a line for
+/// each with the lines of the log that it has. OutOfMemory where an allocation was refused.
 pub(crate) fn render_notes(alloc: Global, found: &LogFound) -> Result<String, OutOfMemory> {
     let findings = &found.findings;
-    let names_lines = found.options.form != LogForm::Traces;
     let mut text = String::new(alloc);
-    if !names_lines {
-        push_origins(&mut text, &findings.violations)?;
+    match found.options.form {
+        LogForm::Lines | LogForm::Explained => {}
+        LogForm::Traces => push_origins(&mut text, &findings.violations)?,
+        LogForm::Evidence => push_without_evidence(&mut text, &findings.violations)?,
     }
     push_note(
         &mut text,
@@ -40,12 +41,36 @@ pub(crate) fn render_notes(alloc: Global, found: &LogFound) -> Result<String, Ou
             findings.parts,
         )?;
     }
-    if !names_lines {
+    if !is_report(found.options.form) {
         let unjudged = findings.unjudged.len();
         push_note(&mut text, "unjudged, past the limits of a trace", unjudged)?;
+        push_note(
+            &mut text,
+            "loads that only repeat others, passed over",
+            findings.repeated,
+        )?;
         push_gaps(&mut text, found)?;
     }
     Ok(text)
+}
+
+/// Whether it is the form of a report.
+fn is_report(form: LogForm) -> bool {
+    match form {
+        LogForm::Lines | LogForm::Explained => true,
+        LogForm::Traces | LogForm::Evidence => false,
+    }
+}
+
+/// Appends how many violations have no evidence by values.
+fn push_without_evidence(text: &mut String, violations: &[LogViolation]) -> Result<(), AllocError> {
+    let mut without: usize = 0;
+    for violation in violations {
+        if !matches!(violation, LogViolation::ByValues(_)) {
+            without = without.saturating_add(1);
+        }
+    }
+    push_note(text, "violations without evidence by values", without)
 }
 
 /// Appends a line for each trace, with the numbers of its lines in the log: `trace 1 line 12 40`; and then how many violations have

@@ -3,7 +3,7 @@ ghost use Rattle.std.specs.Prelude.{◌≡◌, ◌++◌, [], IfOk, OnOk, codes, 
 ghost use Rattle.std.specs.Option.{option_map_or};
 ghost use Rattle.log_text.specs.Tags.{tag_in};
 ghost use Rattle.log_reports.specs.Lines.{log_lines_text};
-ghost use Rattle.log_reports.specs.LogTexts.{count_text, counts_text, found_text, gaps_text, numbered_from, report_text, selection_explained, store_text, stored_text, total_text, unknown_text, unsearched_text, verdict_text, violation_text, violation_trace_text, violation_traces_text, words_if};
+ghost use Rattle.log_reports.specs.LogTexts.{count_text, counts_text, found_text, gaps_text, numbered_from, repeated_text, report_text, selection_explained, sizes_text, store_text, stored_text, total_text, unknown_text, unsearched_text, verdict_text, violation_text, violation_trace_text, violation_traces_text, words_if};
 
 use crate::counts::LogCounts;
 use crate::findings::{LogFindings, LogViolation};
@@ -46,9 +46,18 @@ pub(crate) fn render_report(
 }
 
 /// The first lines.
-#[tactic(auto, unfolding(crate::specs::LogTexts::counts_text))]
 fn render_counts(alloc: Global, counts: LogCounts) -> Result<String, AllocError>
     ensures { IfOk result (λ text. string_bytes text ≡ counts_text counts) }
+{
+    let mut text = render_sizes(alloc, counts)?;
+    push_repeated(&mut text, counts.repeated)?;
+    Ok(text)
+}
+
+/// What the log has.
+#[tactic(auto, unfolding(crate::specs::LogTexts::sizes_text))]
+fn render_sizes(alloc: Global, counts: LogCounts) -> Result<String, AllocError>
+    ensures { IfOk result (λ text. string_bytes text ≡ sizes_text counts) }
 {
     let LogCounts {
         processors,
@@ -56,6 +65,7 @@ fn render_counts(alloc: Global, counts: LogCounts) -> Result<String, AllocError>
         loads,
         unknown,
         left_out,
+        ..
     } = counts;
     let mut text = String::new(alloc);
     write!(
@@ -63,6 +73,16 @@ fn render_counts(alloc: Global, counts: LogCounts) -> Result<String, AllocError>
         "TSO LOG 1\nprocessors {processors} operations {operations} loads {loads} unknown {unknown} left {left_out}\n"
     )?;
     Ok(text)
+}
+
+/// Appends how many loads were passed over, where some were.
+fn push_repeated(text: &mut String, repeated: usize) -> Result<(), AllocError>
+    ensures { OnOk result (string_bytes text.new ≡ string_bytes text.old ++ repeated_text repeated) }
+{
+    if repeated == 0 {
+        return Ok(());
+    }
+    write!(text, "repeated {repeated}\n")
 }
 
 /// Appends the verdict, and what wasn't judged.

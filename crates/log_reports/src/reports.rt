@@ -137,6 +137,7 @@ fn report_on<H: Threads + Wait + AllocGlobal, P: Rendering<KnownLog, LogFound>, 
     meter.expect_total(counts.operations as u64);
     let findings = find_violations(rt, alloc, &known, options, meter)?;
     counts.unknown = findings.unknown;
+    counts.repeated = findings.repeated;
     let found = LogFound {
         options,
         counts,

@@ -1,16 +1,22 @@
-//! The text of a violation by values.
-ghost use Rattle.std.specs.Prelude.{◌≡◌, ◌++◌, OnOk, string_bytes};
+//! The texts of violations by values: their lines, with sentences, or their evidence.
+ghost use Rattle.std.specs.Prelude.{◌≡◌, ◌++◌, IfOk, OnOk, string_bytes};
 ghost use Rattle.std.specs.List.{flat_map};
+ghost use Rattle.log_text.specs.LogValues.{log_value};
 ghost use Rattle.log_text.specs.Tags.{tag_in};
+ghost use Rattle.log_reports.specs.LogTexts.{violation_evidence_text, violation_evidence_texts};
 ghost use Rattle.log_reports.specs.ValueTexts.{cycle_sentence, eliminated_text, elimination_words, evidence_lines_text, evidence_sentences, value_read_words, source_found_text, source_words, sources_sentence, sources_text};
 
+use crate::findings::LogViolation;
 use crate::lines::{push_line, push_lines};
 use crate::value_violations::{ShownEvidence, ShownSource, ShownSources};
-use log_text::LineTags;
-use std::alloc::AllocError;
+use log_text::{LineTags, Log};
+use log_thinning::read_idle_swaps;
+use std::alloc::{AllocError, Global};
 use std::fmt::Write;
+use tso_ops::OutOfMemory;
+use value_texts::{EventName, names_of, print_value_evidence};
 
-/// Appends the lines of a violation by values, and what eliminates the sources of its loads.
+/// Appends what kind of violation one by values is, its lines, and what eliminates the sources of its loads.
 pub(crate) fn push_evidence_lines(
     text: &mut String,
     tags: &LineTags,
@@ -18,6 +24,7 @@ pub(crate) fn push_evidence_lines(
 ) -> Result<(), AllocError>
     ensures { OnOk result (string_bytes text.new ≡ string_bytes text.old ++ evidence_lines_text (tag_in tags.now) shown.now) }
 {
+    text.push_str("by values\n")?;
     push_lines(text, tags, &shown.cycle)?;
     push_loads(text, tags, &shown.loads)
 }
@@ -153,4 +160,37 @@ fn push_cycle_sentence(text: &mut String, shown: &ShownEvidence) -> Result<(), A
         text,
         "The first {count} lines are a cycle: each comes before the next, and the last before the first.\n"
     )
+}
+
+/// The texts of the evidence by values of violations of a log. OutOfMemory where an allocation was refused, or evidence has the number
+/// of an event that the log lacks, as none has that holds of it.
+pub(crate) fn render_evidence(
+    alloc: Global,
+    log: &Log,
+    violations: &[LogViolation],
+) -> Result<String, OutOfMemory>
+    ensures { IfOk result (λ text. string_bytes text ≡ violation_evidence_texts (log_value log.now) violations.now) }
+{
+    let names = names_of(alloc, &read_idle_swaps(alloc, log)?)?;
+    let mut text = String::new(alloc);
+    for violation in violations {
+        push_evidence(&mut text, &names, violation)?;
+    }
+    Ok(text)
+}
+
+/// Appends the text of a violation's evidence by values, if it has some. OutOfMemory as above.
+fn push_evidence(
+    text: &mut String,
+    names: &[EventName],
+    violation: &LogViolation,
+) -> Result<(), OutOfMemory>
+    ensures { OnOk result (string_bytes text.new ≡ string_bytes text.old ++ violation_evidence_text names.now violation.now) }
+{
+    match violation {
+        LogViolation::Selection { .. } | LogViolation::Unwritten(_) => Ok(()),
+        LogViolation::ByValues(shown) => {
+            print_value_evidence(text, names, &shown.evidence).map_err(|_| OutOfMemory)
+        }
+    }
 }

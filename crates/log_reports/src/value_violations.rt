@@ -57,21 +57,22 @@ pub enum ShownSource {
     Line(usize),
 }
 
-/// The violation of a log, of which the search found this in the log whose idle swaps are read as loads. OutOfMemory where an
-/// allocation was refused.
+/// The violation of a log with this evidence, of which the search found this in what is left of the log, whose idle swaps are read
+/// as loads. OutOfMemory where an allocation was refused.
 pub(crate) fn show_violation(
     alloc: Global,
     known: &KnownLog,
-    read: &KnownLog,
-    violation: ValueViolation,
+    left: &KnownLog,
+    violation: &ValueViolation,
+    evidence: ValueEvidence,
 ) -> Result<ShownEvidence, OutOfMemory>
-    ensures evidence { IfOk result (λ shown. shown.evidence ≡ violation.evidence) }
+    ensures evidence { IfOk result (λ shown. shown.evidence ≡ evidence) }
     ensures lines { IfOk result (AreShownOf known.now) }
 {
-    let cycle = show_cycle(alloc, known, read, &violation.cycle)?;
-    let loads = show_loads(alloc, known, read, &violation.loads)?;
+    let cycle = show_cycle(alloc, known, left, &violation.cycle)?;
+    let loads = show_loads(alloc, known, left, &violation.loads)?;
     Ok(ShownEvidence {
-        evidence: violation.evidence,
+        evidence,
         cycle,
         loads,
     })
@@ -81,7 +82,7 @@ pub(crate) fn show_violation(
 fn show_cycle(
     alloc: Global,
     known: &KnownLog,
-    read: &KnownLog,
+    left: &KnownLog,
     numbers: &[usize],
 ) -> Result<Vec<Shown>, OutOfMemory>
     ensures { IfOk result (λ shown. All (IsLineOf known.now.lists) shown.items) }
@@ -89,7 +90,7 @@ fn show_cycle(
     let mut shown = Vec::new(alloc);
     let mut last = 0;
     for number in numbers {
-        if let Some(event) = show_event(known, read, *number)
+        if let Some(event) = show_event(known, left, *number)
             && event.logged.line != last
         {
             last = event.logged.line;
@@ -103,25 +104,25 @@ fn show_cycle(
 fn show_events(
     alloc: Global,
     known: &KnownLog,
-    read: &KnownLog,
+    left: &KnownLog,
     numbers: &[usize],
 ) -> Result<Vec<Shown>, OutOfMemory>
     ensures { IfOk result (λ shown. All (IsLineOf known.now.lists) shown.items) }
 {
     let mut shown = Vec::new(alloc);
     for number in numbers {
-        if let Some(event) = show_event(known, read, *number) {
+        if let Some(event) = show_event(known, left, *number) {
             shown.push(event)?;
         }
     }
     Ok(shown)
 }
 
-/// The line of the log that has the event of this number in the log whose idle swaps are read as loads.
-fn show_event(known: &KnownLog, read: &KnownLog, number: usize) -> Option<Shown>
+/// The line of the log that has the event of this number in what is left of it.
+fn show_event(known: &KnownLog, left: &KnownLog, number: usize) -> Option<Shown>
     ensures { IfSome result (IsLineOf known.now.lists) }
 {
-    let event = read.operation_of(number)?;
+    let event = left.operation_of(number)?;
     known.operation_at(event.processor, event.logged.line)
 }
 
@@ -129,14 +130,14 @@ fn show_event(known: &KnownLog, read: &KnownLog, number: usize) -> Option<Shown>
 fn show_loads(
     alloc: Global,
     known: &KnownLog,
-    read: &KnownLog,
+    left: &KnownLog,
     loads: &[ShownLoad],
 ) -> Result<Vec<ShownSources>, OutOfMemory>
     ensures { IfOk result (λ shown. All (AreSourcesOf known.now) shown.items) }
 {
     let mut shown = Vec::new(alloc);
     for load in loads {
-        if let Some(sources) = show_load(alloc, known, read, load)? {
+        if let Some(sources) = show_load(alloc, known, left, load)? {
             shown.push(sources)?;
         }
     }
@@ -147,12 +148,12 @@ fn show_loads(
 fn show_load(
     alloc: Global,
     known: &KnownLog,
-    read: &KnownLog,
+    left: &KnownLog,
     load: &ShownLoad,
 ) -> Result<Option<ShownSources>, OutOfMemory>
     ensures { IfOk result (λ found. IfSome found (AreSourcesOf known.now)) }
 {
-    let Some(shown) = show_event(known, read, load.load) else {
+    let Some(shown) = show_event(known, left, load.load) else {
         return Ok(None);
     };
     let (LogOperation::Ld { r, .. } | LogOperation::Sw { r, .. }) = shown.logged.operation else {
@@ -165,18 +166,18 @@ fn show_load(
         overwritten: load.overwritten,
         later: load.later,
         taken: load.taken,
-        source: show_source(known, read, load.source),
-        before: show_events(alloc, known, read, &load.before)?,
-        after: show_events(alloc, known, read, &load.after)?,
+        source: show_source(known, left, load.source),
+        before: show_events(alloc, known, left, &load.before)?,
+        after: show_events(alloc, known, left, &load.after)?,
     }))
 }
 
 /// What the source of this number is, 0 for the first value.
-fn show_source(known: &KnownLog, read: &KnownLog, source: Option<usize>) -> ShownSource {
+fn show_source(known: &KnownLog, left: &KnownLog, source: Option<usize>) -> ShownSource {
     match source {
         None => ShownSource::Nothing,
         Some(0) => ShownSource::First,
-        Some(number) => match show_event(known, read, number) {
+        Some(number) => match show_event(known, left, number) {
             Some(event) => ShownSource::Line(event.logged.line),
             None => ShownSource::Nothing,
         },

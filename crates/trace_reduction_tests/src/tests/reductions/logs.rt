@@ -4,7 +4,9 @@ mod notes;
 mod progress;
 mod reports;
 
-use log_reports::{AsExplainedLog, AsLogLines, AsLogTraces, LogReporting, report_log};
+use log_reports::{
+    AsExplainedLog, AsLogEvidence, AsLogLines, AsLogTraces, LogReporting, report_log,
+};
 use progress_meters::NoMeter;
 use request_options::{LogForm, LogOptions};
 use std::io::{ErrorKind, Read, Write};
@@ -33,6 +35,14 @@ const TRACES: LogOptions = LogOptions {
     max_unknown: 100,
     needs_end: false,
     form: LogForm::Traces,
+};
+
+const EVIDENCE: LogOptions = LogOptions {
+    most: 10,
+    effort: 100,
+    max_unknown: 100,
+    needs_end: false,
+    form: LogForm::Evidence,
 };
 
 /// Compares what is said of the log that a reader gives, and what is written of it, where the output and the errors have so much
@@ -74,6 +84,11 @@ fn write_report<H: Threads + Wait + AllocGlobal, R: Read, W: Write, E: Write>(
         }
         LogForm::Traces => {
             let rendering = &AsLogTraces;
+            let reporting = LogReporting { options, rendering };
+            report_log(rt, &reporting, &NoMeter, reader, writer, errors)
+        }
+        LogForm::Evidence => {
+            let rendering = &AsLogEvidence;
             let reporting = LogReporting { options, rendering };
             report_log(rt, &reporting, &NoMeter, reader, writer, errors)
         }

@@ -62,7 +62,7 @@ fn expect_passed<H: Threads + Wait + AllocGlobal + Abort>(
 }
 
 /// Logs with their verdicts, and how many operations each has.
-static LOGS: [(&str, Answer, u64); 9] = [
+static LOGS: [(&str, Answer, u64); 10] = [
     // loads that say nothing new, of which the search looks at two
     (
         "0 st 1 1\n0 ld 1 1\n0 ld 1 1\n1 ld 1 1\n1 ld 1 1\n1 ld 1 1\n",
@@ -87,6 +87,12 @@ static LOGS: [(&str, Answer, u64); 9] = [
     ),
     // a swap that changes nothing counts as a barrier and a load in the second search
     ("0 st 1 5\n1 st 1 5\n2 sw 1 5 5\n", Answer::Undecided, 7),
+    // a load that only repeats the one before is passed in the first search alone
+    (
+        "0 st 1 5\n1 st 1 5\n2 ld 1 5\n2 ld 1 5\n",
+        Answer::Undecided,
+        7,
+    ),
     // a violation, whose loads are taken back
     (
         "0 st 1 1\n0 st 2 2\n1 ld 3 0\n1 ld 2 2\n1 ld 1 0\n2 ld 1 1\n",

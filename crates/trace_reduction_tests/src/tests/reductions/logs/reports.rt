@@ -1,6 +1,6 @@
 //! What is printed of logs, worked out by hand.
 
-use super::{Case, LINES, TRACES};
+use super::{Case, EVIDENCE, LINES, TRACES};
 use request_options::{LogForm, LogOptions};
 use trace_reports::Answer;
 
@@ -44,7 +44,7 @@ const LESS_UNKNOWN: LogOptions = LogOptions {
     form: LogForm::Lines,
 };
 
-pub(super) static CASES: [Case; 25] = [
+pub(super) static CASES: [Case; 29] = [
     // two violations that have no load in common
     (
         LINES,
@@ -233,6 +233,37 @@ pub(super) static CASES: [Case; 25] = [
         Answer::Violation,
         "TSO LOG 1\nprocessors 2 operations 5 loads 3 unknown 0 left 0\nVIOLATION\nSEARCH ENDED EARLY\nviolation 1\nline 1 0 ld 6 4\nstored 0\nviolations 1\n",
         "",
+    ),
+    // evidence by values: a load that its own stores leave nothing
+    (
+        EVIDENCE,
+        "0 st 1 1\n0 st 1 2\n0 ld 1 0\n0 st 1 0\n",
+        Answer::Violation,
+        "nosource 3\n",
+        "",
+    ),
+    // the same beside a violation that has none
+    (
+        EVIDENCE,
+        "0 st 1 1\n0 st 2 2\n1 ld 2 2\n1 ld 1 0\n",
+        Answer::Violation,
+        "read 3 2\nnosource 4\n",
+        "violations without evidence by values 1\n",
+    ),
+    // a load that only repeats the one before
+    (
+        LINES,
+        "0 st 1 0\n1 ld 1 0\n1 ld 1 0\n",
+        Answer::Undecided,
+        "TSO LOG 1\nprocessors 2 operations 3 loads 2 unknown 1 left 0\nrepeated 1\nNO VIOLATION FOUND\nNOTHING JUDGED\n",
+        "",
+    ),
+    (
+        TRACES,
+        "0 st 1 0\n1 ld 1 0\n1 ld 1 0\n",
+        Answer::Undecided,
+        "",
+        "loads that only repeat others, passed over 1\nNOTHING JUDGED\n",
     ),
     // message passing, explained, with the addresses of a real log
     (

@@ -1,7 +1,7 @@
 use Rattle.std.proofs.Common.{◌≡◌, ◌+◌}
 use Rattle.std.specs.List.{count_by}
 use Rattle.log_reports.specs.Findings.{AreFindings, is_by_values, is_selection, is_unwritten}
-use Rattle.log_reports.proofs.findings.LogFindings.search_read.Given as goal
+use Rattle.log_reports.proofs.findings.LogFindings.search_left.Given as goal
 
 abbrev pub invariant-loop-is_again : goal.invariant-loop-is_again
 invariant-loop-is_again g l = record {

@@ -1,6 +1,6 @@
 use Rattle.std.proofs.Common.{arith, false, true}
 use Rattle.log_reports.specs.Findings.{is_by_values, is_selection, is_unwritten}
-use Rattle.log_reports.proofs.findings.LogFindings.search_read.Goals as goal
+use Rattle.log_reports.proofs.findings.LogFindings.search_left.Goals as goal
 
 pub returns-then-is_listed-clause-found : goal.returns-then-is_listed-clause-found
 returns-then-is_listed-clause-found g c = λ before.
