@@ -6,7 +6,9 @@ use Rattle.std.specs.Io.KnownBytes.{Appends, Keeps}
 use Rattle.std.proofs.KnownBytes.{Appends-kept}
 use Rattle.request_options.specs.declared.logs.LogOptions.{LogOptions}
 use Rattle.trace_reports.specs.declared.answers.Answer.{Answer}
+use Rattle.log_evidence.specs.LogChecks.{IsLogCheck, IsLogCheckOfReader, IsLogCheckOfReaders}
 use Rattle.log_reports.specs.LogReports.{IsLogReport}
+use Rattle.text_streams.proofs.ReadingFacts.{reads_more}
 use Rattle.text_streams.specs.Streams.{AppendsPrefix}
 use Rattle.text_streams.specs.WrittenTexts.{LeavesAtFault, WritesWhole}
 use Rattle.text_streams.specs.declared.faults.Fault.{Fault}
@@ -20,6 +22,13 @@ use Rattle.request_texts.proofs.KnownFacts.{known_reads}
 pub logged_of_known : (options : LogOptions) (known remaining : Option (List ℕ)) → HasKnown known remaining → (text : List ℕ) (verdict : Answer) → IsLogged options remaining text verdict →
     IsLogged options known text verdict
 logged_of_known options known remaining has text verdict = known_reads known remaining has (λ bytes. IsLogReport (logged_as options.form) (log_refused_as options.form) options bytes text verdict)
+
+-- the check of evidence against a log, of which less may be known than their readers have
+pub log_check_of_known : (log logs evidence pieces : Option (List ℕ)) → HasKnown log logs → HasKnown evidence pieces → (text : List ℕ) (answer : Answer) → IsLogCheckOfReaders logs pieces text answer →
+    IsLogCheckOfReaders log evidence text answer
+log_check_of_known log logs evidence pieces has also text answer check =
+    known_reads log logs has (λ bytes. IsLogCheckOfReader evidence bytes text answer)
+    (reads_more (λ bytes. known_reads evidence pieces also (λ input. IsLogCheck bytes input text answer)) logs check)
 
 -- ---- what is written to the errors before and after
 

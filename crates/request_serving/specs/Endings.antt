@@ -15,6 +15,7 @@ use Rattle.trace_batches.specs.Batches.{BatchText, IsBatchFault, LeavesBatch, Wr
 use Rattle.request_options.specs.declared.batches.BatchPrinting.{BatchPrinting}
 use Rattle.trace_reports.specs.declared.answers.Answer.{Answer}
 use Rattle.request_options.specs.declared.logs.LogOptions.{LogOptions}
+use Rattle.log_evidence.specs.LogChecks.{IsLogCheckOfReaders}
 use Rattle.log_reports.specs.LogReports.{IsLogReportOfReader}
 use Rattle.outcome_reports.specs.Outcomes.{IsOutcomesOfReader}
 use Rattle.run_following.specs.Reports.{IsRunReportOfReader}
@@ -42,7 +43,7 @@ use Rattle.command_line.specs.declared.requests.Request.TheVariants.{Show, Refus
 use Rattle.command_line.specs.Commands.{IsAskedFor}
 use Rattle.command_line.specs.Refusals.{Refuses}
 use Rattle.command_line.specs.Spellings.{Asks, AsksHelp}
-use Rattle.command_line.specs.Requests.{Asked, Text, judging, deciding, reducing, batching, logging, following, checking, verifying, listing, counting, replaying, running, repeating, making, campaigning, showing, refusing}
+use Rattle.command_line.specs.Requests.{Asked, Text, judging, deciding, reducing, batching, logging, following, checking, verifying, verifying_log, listing, counting, replaying, running, repeating, making, campaigning, showing, refusing}
 
 -- ---- the lines of faults
 
@@ -186,6 +187,8 @@ EndsAsAsked (following file options) input files o status = EndsWithoutThread (I
 EndsAsAsked (checking trace certificate nth) input files o status = EndsWithoutThread (IsCheckOfNth nth (text_bytes trace input files) (text_bytes certificate input files)) status_of o status
 EndsAsAsked (verifying trace evidence nth) input files o status =
     EndsWithoutThread (IsVerificationOfNth nth (text_bytes trace input files) (text_bytes evidence input files)) status_of_answer o status
+EndsAsAsked (verifying_log log evidence) input files o status =
+    EndsWithoutThread (IsLogCheckOfReaders (text_bytes log input files) (text_bytes evidence input files)) status_of_answer o status
 EndsAsAsked (listing program options) input files o status = EndsWithoutThread (IsOutcomesOfReader options (text_bytes program input files)) status_of_answer o status
 EndsAsAsked (counting program stream limit) input files o status =
     EndsWithoutThread (IsSeenOfReaders limit (text_bytes program input files) (text_bytes stream input files)) status_of_answer o status

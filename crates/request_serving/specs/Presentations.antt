@@ -22,7 +22,7 @@ use Rattle.run_following.specs.Reports.{RendersRun}
 use Rattle.run_following.specs.Words.{refused_words, run_words}
 use Rattle.log_reports.specs.LogReports.{RendersLog}
 use Rattle.log_reports.specs.LogRefusals.{log_refusal_explained}
-use Rattle.log_reports.specs.LogTexts.{log_explained, log_lines, log_traces}
+use Rattle.log_reports.specs.LogTexts.{log_evidence_text, log_explained, log_lines, log_traces}
 
 abbrev pub rendered_as : Presentation → TraceValue → Finding → List ℕ
 rendered_as Report = reported
@@ -47,12 +47,14 @@ abbrev pub logged_as : LogForm → RendersLog
 logged_as forms.Lines = log_lines
 logged_as forms.Explained = log_explained
 logged_as forms.Traces = log_traces
+logged_as forms.Evidence = log_evidence_text
 
 -- the refusal of a log is explained where its violations would be
 abbrev pub log_refused_as : LogForm → RendersRefusal
 log_refused_as forms.Lines = rendered_refusal
 log_refused_as forms.Explained = log_refusal_explained
 log_refused_as forms.Traces = rendered_refusal
+log_refused_as forms.Evidence = rendered_refusal
 
 abbrev pub run_rendered_in : RunFormat → Bool → RendersRun
 run_rendered_in run_formats.Words explained = run_words explained

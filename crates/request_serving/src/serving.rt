@@ -14,6 +14,7 @@ use crate::serving::deciding::decide_named;
 use crate::serving::following::follow_named;
 use crate::serving::judging::judge_named;
 use crate::serving::listing::list_named;
+use crate::serving::log_checking::check_log_named;
 use crate::serving::logging::log_named;
 use crate::serving::reducing::reduce_named;
 use command_line::Request;
@@ -34,6 +35,7 @@ mod deciding;
 mod following;
 mod judging;
 mod listing;
+mod log_checking;
 mod logging;
 mod reducing;
 mod reporting;
@@ -50,21 +52,22 @@ const _: () = prove!(command_line::MAX_REQUESTED_WORKERS == MAX_WORKERS);
 /// neither was found with as many steps as the request names; or the explanation or the picture of that. `Reduce` writes a
 /// small trace that shows the violation of the trace, with lines on its operations to `errors`. `Batch` writes a line for each
 /// of the traces of texts, by a verdict or a decision, or the texts of those that are violations, with their numbers to
-/// `errors`. `Log` writes the violations of a log, or their traces. `Follow` writes whether the lines of a run are steps of the
-/// machine, and which aren't. `Check` checks a certificate against a trace and writes
-/// the report of both; `Verify` checks an order or a refutation, and writes whether it holds. `Outcomes` writes the traces
-/// that complete runs of a program leave, or its final states; `Seen` how often a stream of traces has each of these traces.
+/// `errors`. `Log` writes the violations of a log, or their traces, or the evidence by values of one. `Follow` writes whether
+/// the lines of a run are steps of the machine, and which aren't. `Check` checks a certificate against a trace and writes the
+/// report of both; `Verify` checks an order or a refutation, and writes whether it holds; `VerifyLog` checks evidence by values
+/// against a log, the first text, and writes whether it holds. `Outcomes` writes the traces that complete runs of a program
+/// leave, or its final states; `Seen` how often a stream of traces has each of these traces.
 ///
-/// The status of these is that of what they say: 0 where no violation was found, or there is an order or it holds; 1 where
-/// none was found in the part of a log that was searched, nothing was decided, or a run compared no value; 2 where a text, a certificate or evidence
-/// was refused, or runs reach too many states; 3 at a violation, a line of a run that is no step, or a certificate or a refutation that holds. `Replay` and `Run`
-/// print what a record gives: never a violation where the unit is lawful for programs of the memory model that the program's
-/// text names, so their status isn't 3 there. A run whose request names turns of a drainer, at most 1,000,000, has one beside
-/// its processors. `RunTimes` writes the trace of each run as it ends. `Show` writes its text to `writer`,
-/// with status 0, and `Refuse` to `errors`, with status 2. At a fault the status is 4 and one line, as `FAULT Read`, is written to
-/// `errors`; a file that can't be opened is the fault Read. All files that the request names are opened, in their order,
-/// before one is read; but those of `Batch` each when its turn comes, and where one can't be opened it judges the others, says so,
-/// and has the same status and last line.
+/// The status of these is that of what they say: 0 where no violation was found, or there is an order or it holds; 1 where none
+/// was found in the part of a log that was searched, nothing was decided, or a run compared no value; 2 where a text, a
+/// certificate or evidence was refused, or runs reach too many states; 3 at a violation, a line of a run that is no step, or a
+/// certificate, a refutation or evidence by values that holds. `Replay` and `Run` print what a record gives: never a violation
+/// where the unit is lawful for programs of the memory model that the program's text names, so their status isn't 3 there. A
+/// run whose request names turns of a drainer, at most 1,000,000, has one beside its processors. `RunTimes` writes the trace of
+/// each run as it ends. `Show` writes its text to `writer`, with status 0, and `Refuse` to `errors`, with status 2. At a fault
+/// the status is 4 and one line, as `FAULT Read`, is written to `errors`; a file that can't be opened is the fault Read. All
+/// files that the request names are opened, in their order, before one is read; but those of `Batch` each when its turn comes,
+/// and where one can't be opened it judges the others, says so, and has the same status and last line.
 pub fn serve<H: Threads + Wait + Sync + AllocGlobal, O: Environment, R: Read, W: Write, E: Write>(
     rt: &H,
     request: &Request<'_>,
@@ -121,6 +124,10 @@ pub fn serve<H: Threads + Wait + Sync + AllocGlobal, O: Environment, R: Read, W:
             let kind = &OrdersAndRefutations;
             let verified = check_named(rt.alloc(), kind, request, files, reader, writer);
             end_answer(verified, errors)
+        }
+        Request::VerifyLog(texts) => {
+            let checked = check_log_named(rt.alloc(), *texts, files, reader, writer);
+            end_answer(checked, errors)
         }
         Request::Outcomes(request) => {
             let listed = list_named(rt.alloc(), request, files, reader, writer);

@@ -11,7 +11,9 @@ ghost use Rattle.command_line.specs.Requests.{asked_of};
 ghost use Rattle.command_line.specs.declared.requests.Request.TheVariants.{Log};
 
 use command_line::LogRequest;
-use log_reports::{AsExplainedLog, AsLogLines, AsLogTraces, LogReporting, report_log};
+use log_reports::{
+    AsExplainedLog, AsLogEvidence, AsLogLines, AsLogTraces, LogReporting, report_log,
+};
 use progress_meters::TotalMeter;
 use request_options::{LogForm, LogOptions};
 use request_texts::{Environment, open};
@@ -95,6 +97,13 @@ fn log_reader<H: Threads + Wait + AllocGlobal, M: TotalMeter, R: Read, W: Write,
             let reporting = LogReporting {
                 options: *options,
                 rendering: &AsLogTraces,
+            };
+            report_log(rt, &reporting, meter, reader, writer, errors)
+        }
+        LogForm::Evidence => {
+            let reporting = LogReporting {
+                options: *options,
+                rendering: &AsLogEvidence,
             };
             report_log(rt, &reporting, meter, reader, writer, errors)
         }

@@ -211,3 +211,6 @@ returns-in-Seen-clause-first g c = rw c.in-Seen.is c.count_named-counted.ensures
 
 pub returns-in-Verify-clause-first : goal.returns-in-Verify-clause-first
 returns-in-Verify-clause-first g c = rw c.in-Verify.is c.check_named-verified.ensures.first
+
+pub returns-in-VerifyLog-clause-first : goal.returns-in-VerifyLog-clause-first
+returns-in-VerifyLog-clause-first g c = rw c.in-VerifyLog.is c.check_log_named-checked.ensures.first

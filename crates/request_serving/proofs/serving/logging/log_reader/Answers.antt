@@ -34,3 +34,13 @@ pub returns-in-Traces-clause-left : goal.returns-in-Traces-clause-left
 returns-in-Traces-clause-left g c =
     let said = λ (form : LogForm). IsLogReportOfReader (logged_as form) (log_refused_as form) c.args.options.now (g.R.Read.remaining c.args.reader.now) in
     subst (λ form. IfErr c.report_log-in-Traces.result (LeavesAtFault (said form) (g.W.Write.contents c.args.writer.now) (g.W.Write.contents c.report_log-in-Traces.new.writer))) (sym c.in-Traces.is) c.report_log-in-Traces.ensures.left
+
+pub returns-in-Evidence-clause-whole : goal.returns-in-Evidence-clause-whole
+returns-in-Evidence-clause-whole g c =
+    let said = λ (form : LogForm). IsLogReportOfReader (logged_as form) (log_refused_as form) c.args.options.now (g.R.Read.remaining c.args.reader.now) in
+    subst (λ form. IfOk c.report_log-in-Evidence.result (WritesWhole (said form) (g.W.Write.contents c.args.writer.now) (g.W.Write.contents c.report_log-in-Evidence.new.writer))) (sym c.in-Evidence.is) c.report_log-in-Evidence.ensures.report
+
+pub returns-in-Evidence-clause-left : goal.returns-in-Evidence-clause-left
+returns-in-Evidence-clause-left g c =
+    let said = λ (form : LogForm). IsLogReportOfReader (logged_as form) (log_refused_as form) c.args.options.now (g.R.Read.remaining c.args.reader.now) in
+    subst (λ form. IfErr c.report_log-in-Evidence.result (LeavesAtFault (said form) (g.W.Write.contents c.args.writer.now) (g.W.Write.contents c.report_log-in-Evidence.new.writer))) (sym c.in-Evidence.is) c.report_log-in-Evidence.ensures.left
