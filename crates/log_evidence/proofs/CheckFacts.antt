@@ -13,7 +13,6 @@ use Rattle.value_evidence.specs.declared.steps.ValueStep.{ValueStep}
 use Rattle.value_evidence.specs.declared.steps.ValueEvidence.{ValueEvidence}
 use Rattle.value_evidence.specs.Evidence.{AllStepsHold, EndHolds, EvidenceHolds}
 use Rattle.value_evidence.proofs.Soundness.{no_order}
-use Rattle.value_texts.specs.declared.names.EventName.{EventName}
 use Rattle.value_texts.specs.Names.{event_names}
 use Rattle.value_texts.specs.Printed.{EvidenceValue, evidence_value}
 use Rattle.value_texts.specs.Spelling.{SpellsValueEvidence}

@@ -1,7 +1,6 @@
 -- A text that is refused as that of a log has one refusal.
 use Rattle.std.proofs.Common.{◌≡◌, ◌⊎◌, ◌∙◌, ℕ, suc, Bool, List, [], ◌∷◌, ◌++◌, length, map, None, Some, Result, Ok, refl, ap, sym, subst, inl, inr}
 use Rattle.std.proofs.lemmas.Option.{same_Some}
-use Rattle.line_text.specs.Lines.{parts_of}
 use Rattle.tso_text.specs.declared.faults.Why.{Why}
 use Rattle.log_text.specs.declared.lines.LogLine.{LogLine}
 use Rattle.log_text.specs.LogLines.{line_said}

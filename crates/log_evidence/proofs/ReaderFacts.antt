@@ -1,5 +1,5 @@
 -- Lemmas on what was read of a log and of evidence, and on the report on it.
-use Rattle.std.proofs.Common.{◌≡◌, ◌<◌, ◌≤◌, ◌∙◌, ◌^◌, ℕ, false, List, length, take, None, Some, Ok, Err, IfSome, IfOk, refl, sym, subst, arith, inl, inr, ⊎_elim}
+use Rattle.std.proofs.Common.{◌≡◌, ◌<◌, ◌≤◌, ◌∙◌, ◌^◌, ℕ, false, List, length, take, None, Some, Ok, Err, IfSome, IfOk, sym, subst, arith, inl, inr, ⊎_elim}
 use Rattle.std.specs.Prelude.{Option, Result}
 use Rattle.std.specs.Io.KnownBytes.{Consumes}
 use Rattle.std.proofs.lemmas.Bool.{cases_lt}
@@ -20,7 +20,7 @@ use Rattle.trace_judging.specs.Limits.{certificate_byte_limit, certificate_read_
 use Rattle.trace_reports.specs.declared.answers.Answer.{Answer}
 use Rattle.trace_reports.specs.declared.answers.Answer.TheVariants.{Violation, Refused}
 use Rattle.trace_reports.specs.Reports.{rendered_refusal}
-use Rattle.log_evidence.specs.LogChecks.{IsLogCheck, IsLogCheckOfReader, IsLogCheckOfReaders, IsRefusedLog, IsValueLine, IsValueReport}
+use Rattle.log_evidence.specs.LogChecks.{IsLogCheckOfReader, IsLogCheckOfReaders, IsRefusedLog, IsValueLine, IsValueReport}
 use Rattle.log_evidence.proofs.CheckFacts.{check_violation, never_refused, refuted_no_order}
 
 -- ---- what is read
