@@ -247,7 +247,7 @@ pub(super) static CASES: [Case; 29] = [
         EVIDENCE,
         "0 st 1 1\n0 st 2 2\n1 ld 2 2\n1 ld 1 0\n",
         Answer::Violation,
-        "read 3 2\nnosource 4\n",
+        "read 3 2\nin 2 3\nnosource 4\n",
         "violations without evidence by values 1\n",
     ),
     // a load that only repeats the one before
