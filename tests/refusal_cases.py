@@ -70,7 +70,13 @@ WITH_REFUSED_REQUESTS = "\n".join([
 3 log --explain files/log_pso_with_stbar.log
 3 log --explain files/log_repeated_loads.log
 3 log --evidence files/log_message_passing.log
+0 log --decide files/log_swap_lock.log
+3 log --decide files/log_message_passing.log
+3 log --decide files/log_each_reads_another.log
+1 log --decide --effort 0 files/log_each_reads_another.log
 3 verify --log files/log_message_passing.log files/log_message_passing.evidence
+0 verify --log files/log_lock_given_back.log files/log_lock_given_back.order
+3 verify --log files/log_each_reads_another.log files/log_each_reads_another.refutation
 2 verify --log files/log_unwritten_once.log files/log_message_passing.evidence
 3 log --most 2 files/log_unwritten.log
 0 log files/log_swap_lock.log
@@ -143,6 +149,7 @@ OutOfMemory explain {SWAPS}
 OutOfMemory draw {SWAPS}
 OutOfMemory batch files/batch_no_violation.stream
 OutOfMemory log files/log_store_buffering.log
+OutOfMemory log --decide files/log_message_passing.log
 OutOfMemory verify --log files/log_message_passing.log files/log_message_passing.evidence
 OutOfMemory check examples/unwritten_load.trace files/unwritten_1.certificate
 OutOfMemory replay --unit serial examples/replay_serial.program examples/replay_serial.schedule

@@ -75,7 +75,7 @@ _tsobench() {
         draw/*) words='--edges --decide --effort --workers --nth --verbose -h --help' files=yes ;;
         reduce/*) words='--nth --verbose -h --help' files=yes ;;
         batch/*) words='--workers --format --quiet --violations --decide --effort --require --progress --verbose -h --help' files=yes ;;
-        log/*) words='--most --effort --max-unknown --ended --trace --explain --evidence --progress --verbose -h --help' files=yes ;;
+        log/*) words='--most --effort --max-unknown --ended --trace --explain --evidence --decide --progress --verbose -h --help' files=yes ;;
         follow/*) words='--most --explain --format --ended --fail-fast --progress --verbose -h --help' files=yes ;;
         check/*) words='--nth --verbose -h --help' files=yes ;;
         verify/*) words='--log --nth --verbose -h --help' files=yes ;;

@@ -18,17 +18,18 @@ use Rattle.clap.proofs.WalkLemmas.{first_value-rows, one_text-rows}
 use Rattle.command_line.specs.Offered.{several_in}
 use Rattle.request_options.specs.declared.batches.BatchPrinting.{BatchPrinting}
 use Rattle.request_options.specs.declared.logs.LogForm.{LogForm}
+use Rattle.request_options.specs.declared.logs.LogForm.TheVariants.{Lines, Explained, Traces, Evidence}
 use Rattle.request_options.specs.declared.logs.LogOptions.{LogOptions}
 use Rattle.command_line.specs.declared.options.RunOptions.{RunOptions}
 use Rattle.command_line.specs.declared.options.UnitOptions.{UnitOptions}
-use Rattle.command_line.specs.Requests.{Asked, Text, asked_of, batching, capacity_limit, checking, deciding, drain_turns_limit, judging, log_effort_limit, log_violation_limit, logging, number_limit, percent_limit, prints_trace, refusing, repeating, replaying, requested_worker_limit, run_times_limit, running, verifying, verifying_log}
+use Rattle.command_line.specs.Requests.{Asked, Text, asked_of, batching, capacity_limit, checking, deciding, deciding_log, drain_turns_limit, judging, log_effort_limit, log_violation_limit, logging, number_limit, percent_limit, prints_trace, refusing, repeating, replaying, requested_worker_limit, run_times_limit, running, verifying, verifying_log}
 use Rattle.command_line.specs.declared.options.Presentation.{Presentation}
 use Rattle.command_line.specs.declared.options.Printing.{Printing}
 use Rattle.command_line.specs.Pictures.{chosen_picture, picture_form}
 use Rattle.command_line.specs.declared.requests.Request.{Request}
 use Rattle.request_options.specs.declared.outcomes.OutcomeForm.{OutcomeForm}
 use Rattle.command_line.specs.Options.{batch_printing_of, given_number, given_unit, is_true, log_form_of, log_options_in, log_options_of, number_or, outcome_form_of, pair_of, printing_of, run_of, within, workers_of}
-use Rattle.command_line.specs.Subcommands.{batch, batch_texts, check, decision_asked, draw, evidence_asked, explain, file_of, log, log_parameters, outcomes, outcomes_asked, presented, replay, run, run_asked, run_parameters, verdict_asked, verify}
+use Rattle.command_line.specs.Subcommands.{batch, batch_texts, check, decision_asked, draw, evidence_asked, explain, file_of, log, log_asked, log_decision_asked, log_parameters, outcomes, outcomes_asked, presented, replay, run, run_asked, run_parameters, verdict_asked, verify}
 use Rattle.command_line.specs.Commands.{asked_in, given_in}
 
 -- the file that a value names which was asked for by its id
@@ -166,9 +167,9 @@ asked_without_effort true given is decision verdict = absurd (none-some given is
 asked_without_effort false given is decision verdict = refl
 
 -- what `log` asks for with these options, where there are any, and this file
-pub log_asked : (rows : List Row) (options : Option LogOptions) → options ≡ log_options_of (given_in log_parameters rows) → (file : Option Text) → file ≡ file_of (first_of (codes "file") rows)
-    → option_map_or (logging file) options refusing ≡ asked_in log rows
-log_asked rows options options_are file file_is = rw (options_are, file_is) refl
+pub log_found : (rows : List Row) (options : Option LogOptions) → options ≡ log_options_of (given_in log_parameters rows) → (file : Option Text) → file ≡ file_of (first_of (codes "file") rows)
+    → (decides : Bool) → decides ≡ is_true (one_of (codes "decide") rows) → option_map_or (log_asked decides file) options refusing ≡ asked_in log rows
+log_found rows options options_are file file_is decides decides_is = rw (options_are, file_is, decides_is) refl
 
 -- what `run` asks for with these options, where there are any
 pub run_found : (rows : List Row) (options : Option RunOptions) → options ≡ run_of (given_in run_parameters rows) → (seed turns times : ℕ) (program : Option Text)
@@ -255,8 +256,9 @@ module _ (P : Asked → Type 0) (refused : P refusing) where
       either true None texts = on_log texts.0 texts.1
       either true (Some number) texts = refused
 
-  pub of_log : ((file : Option Text) (options : LogOptions) → 1 ≤ options.most → options.most ≤ log_violation_limit → options.effort ≤ log_effort_limit → options.max_unknown ≤ percent_limit → P (logging file options)) → (rows : List Row) → P (asked_in log rows)
-  of_log asked rows = go (log_form_of (is_true (given_in log.parameters rows (codes "trace"))) (is_true (given_in log.parameters rows (codes "explain"))) (is_true (given_in log.parameters rows (codes "evidence"))))
+  pub of_log : ((file : Option Text) (options : LogOptions) → 1 ≤ options.most → options.most ≤ log_violation_limit → options.effort ≤ log_effort_limit → options.max_unknown ≤ percent_limit → P (logging file options))
+      → ((file : Option Text) (effort : ℕ) (needs_end : Bool) → P (deciding_log file effort needs_end)) → (rows : List Row) → P (asked_in log rows)
+  of_log asked decided rows = go (log_form_of (is_true (given_in log.parameters rows (codes "trace"))) (is_true (given_in log.parameters rows (codes "explain"))) (is_true (given_in log.parameters rows (codes "evidence"))))
     where
       file : Option Text
       file = file_of (first_of (codes "file") rows)
@@ -264,9 +266,22 @@ module _ (P : Asked → Type 0) (refused : P refusing) where
       options : LogForm → LogOptions
       options form = log_options_in (given_in log.parameters rows) form
 
-      go : (form : Option LogForm) → P (option_map_or (logging file) (option_map options form) refusing)
+      decides : Bool
+      decides = is_true (given_in log.parameters rows (codes "decide"))
+
+      by_form : (form : LogForm) (options : LogOptions) → P (log_decision_asked file options form)
+      by_form Lines options = decided file options.effort options.needs_end
+      by_form Explained options = refused
+      by_form Traces options = refused
+      by_form Evidence options = refused
+
+      either : (decides : Bool) (form : LogForm) → P (log_asked decides file (options form))
+      either true form = by_form form (options form)
+      either false form = asked file (options form) (omega arith) (omega arith) (omega arith) (omega arith)
+
+      go : (form : Option LogForm) → P (option_map_or (log_asked decides file) (option_map options form) refusing)
       go None = refused
-      go (Some form) = asked file (options form) (omega arith) (omega arith) (omega arith) (omega arith)
+      go (Some form) = either decides form
 
   pub of_batch : ((texts : List (Option Text)) (workers : ℕ) (printing : BatchPrinting) → 1 ≤ workers → workers ≤ requested_worker_limit → count_by is_none texts ≤ 1 → P (batching texts workers printing)) → (rows : List Row) → P (asked_in batch rows)
   of_batch asked rows = of_texts (several_in rows batch.parameters)

@@ -14,7 +14,7 @@ use Rattle.command_line.specs.declared.options.Printing.{Printing}
 use Rattle.command_line.specs.declared.options.Printing.TheVariants.{Report, Trace, Explanation}
 use Rattle.command_line.specs.declared.options.RunOptions.{RunOptions}
 use Rattle.command_line.specs.declared.options.UnitOptions.{UnitOptions}
-use Rattle.command_line.specs.declared.requests.Request.TheVariants.{Judge, Decide, Reduce, Batch, Log, Follow, Check, Verify, VerifyLog, Outcomes, Seen, Replay, Run, RunTimes, Make, Campaign, Show, Refuse}
+use Rattle.command_line.specs.declared.requests.Request.TheVariants.{Judge, Decide, Reduce, Batch, Log, DecideLog, Follow, Check, Verify, VerifyLog, Outcomes, Seen, Replay, Run, RunTimes, Make, Campaign, Show, Refuse}
 
 -- the bytes of a text
 abbrev pub Text : Type 0
@@ -45,13 +45,16 @@ pub data Asked : Type 0 where
   batching : List (Option Text) → ℕ → BatchPrinting → Asked
   -- to find violations of a log, and to show so many at most in this form
   logging : Option Text → LogOptions → Asked
+  -- to decide, after so many cases at most, whether a log has an order that meets the axioms of its memory model; it is refused without a line `end`, where
+  -- that is needed
+  deciding_log : Option Text → (effort : ℕ) → (needs_end : Bool) → Asked
   -- to follow a run that says its own order
   following : Option Text → FollowOptions → Asked
   -- to check against a trace, the first text or the trace of this number in it, a certificate, the second
   checking : Option Text → Option Text → Option ℕ → Asked
   -- to check evidence, the second text, of whether a trace, the first text or the trace of this number in it, has such an order
   verifying : Option Text → Option Text → Option ℕ → Asked
-  -- to check evidence by values, the second text, against a log, the first
+  -- to check evidence, the second text, of whether a log, the first, has such an order
   verifying_log : Option Text → Option Text → Asked
   -- to list the outcomes of a program with these options
   listing : Option Text → OutcomeOptions → Asked
@@ -87,6 +90,7 @@ asked_of (Decide decide) = deciding decide.presentation (option_map (λ f. f.now
 asked_of (Reduce reduce) = reducing (option_map (λ f. f.now) reduce.file) reduce.nth
 asked_of (Batch batch) = batching (map (option_map (λ f. f.now)) batch.texts.items) batch.workers batch.printing
 asked_of (Log log) = logging (option_map (λ f. f.now) log.file) log.options
+asked_of (DecideLog decide) = deciding_log (option_map (λ f. f.now) decide.file) decide.effort decide.needs_end
 asked_of (Follow follow) = following (option_map (λ f. f.now) follow.file) follow.options
 asked_of (Check check) = checking (files_of check.texts).0 (files_of check.texts).1 check.nth
 asked_of (Verify check) = verifying (files_of check.texts).0 (files_of check.texts).1 check.nth
@@ -154,6 +158,7 @@ needs (deciding presentation file workers nth effort) = record nothing_needed { 
 needs (reducing file nth) = record nothing_needed { texts = file ∷ [] }
 needs (batching texts workers printing) = record nothing_needed { texts = texts; workers = Some workers }
 needs (logging file options) = record nothing_needed { texts = file ∷ [] }
+needs (deciding_log file effort needs_end) = record nothing_needed { texts = file ∷ [] }
 needs (following file options) = record nothing_needed { texts = file ∷ [] }
 needs (checking trace certificate nth) = record nothing_needed { texts = trace ∷ certificate ∷ [] }
 needs (verifying trace evidence nth) = record nothing_needed { texts = trace ∷ evidence ∷ [] }

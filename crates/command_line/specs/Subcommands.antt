@@ -4,6 +4,9 @@ use Rattle.std.specs.List.{list_any}
 use Rattle.std.specs.Option.{option_map_or}
 use Rattle.std.specs.Str.{bytes_eq}
 use Rattle.command_line.specs.Parameters.{Parameter, any_text, flag, id_of, is_several, listed, option, optional, other, range, several}
+use Rattle.request_options.specs.declared.logs.LogForm.{LogForm}
+use Rattle.request_options.specs.declared.logs.LogForm.TheVariants.{Lines}
+use Rattle.request_options.specs.declared.logs.LogOptions.{LogOptions}
 use Rattle.request_options.specs.declared.outcomes.OutcomeForm.{OutcomeForm}
 use Rattle.request_options.specs.declared.outcomes.OutcomeForm.TheVariants.{States, Traces}
 use Rattle.request_options.specs.declared.outcomes.OutcomeOptions.{OutcomeOptions}
@@ -13,7 +16,7 @@ use Rattle.command_line.specs.declared.options.RunOptions.{RunOptions}
 use Rattle.command_line.specs.declared.parameters.NameList.{NameList}
 use Rattle.command_line.specs.declared.parameters.NameList.TheVariants.{Units, Models, Formats, RunFormats}
 use Rattle.command_line.specs.Pictures.{chosen_picture, edges, picture_form}
-use Rattle.command_line.specs.Requests.{Text, Asked, batching, campaigning, capacity_limit, checking, counting, deciding, drain_turns_limit, following, judging, listing, log_effort_limit, log_violation_limit, logging, making, number_limit, percent_limit, prints_trace, reducing, refusing, repeating, replaying, run_times_limit, running, verifying, verifying_log, requested_worker_limit}
+use Rattle.command_line.specs.Requests.{Text, Asked, batching, campaigning, capacity_limit, checking, counting, deciding, deciding_log, drain_turns_limit, following, judging, listing, log_effort_limit, log_violation_limit, logging, making, number_limit, percent_limit, prints_trace, reducing, refusing, repeating, replaying, run_times_limit, running, verifying, verifying_log, requested_worker_limit}
 use Rattle.command_line.specs.Options.{batch_printing_of, campaign_printing_of, chosen_order, drain_turns_of, effort_of, execution_of, follow_options_of, given_number, given_shape, given_unit, is_true, log_options_of, number_or, outcome_form_of, pair_of, run_of, times_of, workers_of}
 
 pub record Subcommand : Type 0 where
@@ -88,14 +91,14 @@ drain_turns = option (codes "drain-turns") (range 0 drain_turns_limit) (Some (co
 abbrev pub times : Parameter NameList
 times = option (codes "times") (range 1 run_times_limit) (Some (codes "1"))
 
--- `[--most K] [--effort N] [--max-unknown PERCENT] [--ended] [--trace|--explain|--evidence] [--progress] [--verbose]`: 10 violations, an effort of 100 and 100 of a
--- hundred where they are left out
+-- `[--most K] [--effort N] [--max-unknown PERCENT] [--ended] [--trace|--explain|--evidence|--decide] [--progress] [--verbose]`: 10 violations, an effort of 100 and
+-- 100 of a hundred where they are left out
 abbrev pub log_parameters : List (Parameter NameList)
 log_parameters =
     option (codes "most") (range 1 log_violation_limit) (Some (codes "10"))
     ∷ option (codes "effort") (range 0 log_effort_limit) (Some (codes "100"))
     ∷ option (codes "max-unknown") (range 0 percent_limit) (Some (codes "100"))
-    ∷ flag (codes "ended") ∷ flag (codes "trace") ∷ flag (codes "explain") ∷ flag (codes "evidence") ∷ progress ∷ verbose ∷ []
+    ∷ flag (codes "ended") ∷ flag (codes "trace") ∷ flag (codes "explain") ∷ flag (codes "evidence") ∷ flag (codes "decide") ∷ progress ∷ verbose ∷ []
 
 -- `--name N`, which may not be left out
 abbrev pub required : Text → Parameter NameList
@@ -178,12 +181,22 @@ batch = record {
   ask = λ given. batching [] (workers_of given) (batch_printing_of given);
 }
 
--- `log [--most K] [--effort N] [--max-unknown PERCENT] [--ended] [--trace|--explain|--evidence] [--progress] [--verbose] [FILE]`: finds violations of the log in a file, or on standard input
+-- to decide on a log with the effort and the end of these options: a decision has one form
+abbrev pub log_decision_asked : Option Text → LogOptions → LogForm → Asked
+log_decision_asked file options Lines = deciding_log file options.effort options.needs_end
+log_decision_asked file options _ = refusing
+
+-- that, or to find violations of the log
+abbrev pub log_asked : (decides : Bool) → Option Text → LogOptions → Asked
+log_asked decides file options = if decides then log_decision_asked file options options.form else logging file options
+
+-- `log [--most K] [--effort N] [--max-unknown PERCENT] [--ended] [--trace|--explain|--evidence|--decide] [--progress] [--verbose] [FILE]`: finds violations of the log in
+-- a file, or on standard input, or decides on it
 abbrev pub log : Subcommand
 log = record {
   name = codes "log";
   parameters = log_parameters ++ other (codes "file") false ∷ [];
-  ask = λ given. option_map_or (logging (file_of (given (codes "file")))) (log_options_of given) refusing;
+  ask = λ given. option_map_or (log_asked (is_true (given (codes "decide"))) (file_of (given (codes "file")))) (log_options_of given) refusing;
 }
 
 -- `follow [--most K] [--explain] [--format FORMAT] [--ended] [--fail-fast] [--progress] [--verbose] [LOG]`: follows the run in a file, or on standard input

@@ -100,7 +100,7 @@ For more information, try '--help'.
 
 /// The refusal of two of `--trace`, `--explain` and `--evidence`.
 pub(crate) const SEVERAL_FORMS: &str = "\
-error: one of '--trace', '--explain' and '--evidence' may be used, and no more
+error: one of '--trace', '--explain', '--evidence' and '--decide' may be used, and no more
 
 For more information, try '--help'.
 ";

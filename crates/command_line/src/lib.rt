@@ -18,7 +18,7 @@ pub use options::{
     ShapeNumbers, UnitKind, UnitOptions,
 };
 pub use requests::{
-    BatchRequest, CheckRequest, CommandLine, DecideRequest, FollowRequest, JudgeRequest,
-    LogRequest, Notes, OutcomesRequest, ReduceRequest, Request, RunRequest, RunTimesRequest,
-    SeenRequest, TextPair, read_arguments,
+    BatchRequest, CheckRequest, CommandLine, DecideLogRequest, DecideRequest, FollowRequest,
+    JudgeRequest, LogRequest, Notes, OutcomesRequest, ReduceRequest, Request, RunRequest,
+    RunTimesRequest, SeenRequest, TextPair, read_arguments,
 };

@@ -141,6 +141,17 @@ pub struct LogRequest<'a> {
     pub options: LogOptions,
 }
 
+/// Of which log it is decided whether it has an order that meets the axioms of its memory model, and with what effort.
+#[derive(Clone, Copy)]
+pub struct DecideLogRequest<'a> {
+    /// The file with the log; standard input where none is named.
+    pub file: Option<&'a str>,
+    /// How many cases the search for a decision supposes, at most.
+    pub effort: usize,
+    /// Whether the log has to end with a line `end`.
+    pub needs_end: bool,
+}
+
 /// Which run is followed, and how.
 #[derive(Clone, Copy)]
 pub struct FollowRequest<'a> {
@@ -163,13 +174,15 @@ pub enum Request<'a> {
     Batch(BatchRequest<'a>),
     /// To find violations of a log.
     Log(LogRequest<'a>),
+    /// To decide whether a log has an order that meets the axioms of its memory model.
+    DecideLog(DecideLogRequest<'a>),
     /// To follow a run that says its own order.
     Follow(FollowRequest<'a>),
     /// To check a certificate against its trace.
     Check(CheckRequest<'a>),
     /// To check evidence on a trace: that it has an order that meets the axioms of its memory model, or none.
     Verify(CheckRequest<'a>),
-    /// To check evidence by values against a log.
+    /// To check evidence on a log: that it has an order that meets the axioms of its memory model, or none.
     VerifyLog(TextPair<'a>),
     /// To list the outcomes of a program.
     Outcomes(OutcomesRequest<'a>),

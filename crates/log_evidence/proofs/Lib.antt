@@ -1,3 +1,4 @@
 pub mod CheckFacts
 pub mod LogRefusals
 pub mod ReaderFacts
+pub mod RefutationRefusals

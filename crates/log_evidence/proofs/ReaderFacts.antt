@@ -11,17 +11,16 @@ use Rattle.text_streams.proofs.ReadingFacts.{reads_any, reads_as, reads_more, re
 use Rattle.log_text.specs.LogTexts.{IsLogRefusal, SpellsLog}
 use Rattle.log_text.specs.LogValues.{NumberedLog, log_operations}
 use Rattle.log_thinning.specs.IdleSwaps.{with_idle_swaps_read}
-use Rattle.value_evidence.specs.declared.steps.ValueEvidence.{ValueEvidence}
 use Rattle.value_texts.specs.declared.names.EventName.{EventName}
 use Rattle.value_texts.specs.Names.{event_names}
-use Rattle.value_texts.specs.Printed.{evidence_value}
-use Rattle.value_texts.specs.Spelling.{SpellsValueEvidence}
+use Rattle.value_texts.specs.Printed.{LogEvidenceValue}
+use Rattle.value_texts.specs.Spelling.{SpellsLogEvidence}
 use Rattle.trace_judging.specs.Limits.{certificate_byte_limit, certificate_read_limit}
 use Rattle.trace_reports.specs.declared.answers.Answer.{Answer}
-use Rattle.trace_reports.specs.declared.answers.Answer.TheVariants.{Violation, Refused}
+use Rattle.trace_reports.specs.declared.answers.Answer.TheVariants.{Clear, Violation, Refused}
 use Rattle.trace_reports.specs.Reports.{rendered_refusal}
 use Rattle.log_evidence.specs.LogChecks.{IsLogCheckOfReader, IsLogCheckOfReaders, IsRefusedLog, IsValueLine, IsValueReport}
-use Rattle.log_evidence.proofs.CheckFacts.{check_violation, never_refused, refuted_no_order}
+use Rattle.log_evidence.proofs.CheckFacts.{check_consistent, check_violation, never_refused, ordered_consistent, refuted_no_order}
 
 -- ---- what is read
 
@@ -54,10 +53,12 @@ pub not_refused_log : (X : Type 0) (text : List ℕ) (log : NumberedLog) → Spe
 not_refused_log X text log spells refused = absurd (never_refused text log refused.0 refused.1 spells refused.2)
 
 -- the report about a log, with its idle swaps read, on evidence that was read by the names of its events
-pub report_of_values : (log read : NumberedLog) (names seen : List EventName) (input told : List ℕ) (e : ValueEvidence) (answer : Answer) → read ≡ log → names ≡ event_names read → seen ≡ names →
-    SpellsValueEvidence seen input (evidence_value e) → IsValueLine (log_operations read) e told answer → IsValueReport log input told answer
+pub report_of_values : (log read : NumberedLog) (names seen : List EventName) (input told : List ℕ) (e : LogEvidenceValue) (answer : Answer) → read ≡ log → names ≡ event_names read → seen ≡ names →
+    SpellsLogEvidence seen input e → IsValueLine (log_operations read) seen e told answer → IsValueReport log input told answer
 report_of_values log read names seen input told e answer is named same spells line =
-    subst (λ (l : NumberedLog). IsValueReport l input told answer) is (inl (e, subst (λ (some : List EventName). SpellsValueEvidence some input (evidence_value e)) (same ∙ named) spells, line))
+    let all : seen ≡ event_names read = same ∙ named in
+    subst (λ (l : NumberedLog). IsValueReport l input told answer) is
+    (inl (e, subst (λ (some : List EventName). SpellsLogEvidence some input e) all spells, subst (λ (some : List EventName). IsValueLine (log_operations read) some e told answer) all line))
 
 -- the report about a log on the evidence that a reader has, by what was read of it
 pub check_of_spelled : (text : List ℕ) (log : NumberedLog) → SpellsLog text log → (remaining : Option (List ℕ)) (bytes seen told : List ℕ) (answer : Answer) →
@@ -84,7 +85,13 @@ pub refused_by_read : {P : Type 0} (logs : Option (List ℕ)) (bytes seen : List
 refused_by_read None bytes seen all same holds = tt
 refused_by_read (Some whole) bytes seen all same holds = λ refused. holds (subst IsRefusedLog (sym (same ∙ all)) refused)
 
--- a log on which the answer is Violation has no order
+-- a log on which the answer is Clear has an order
+pub reader_order : (logs evidence : Option (List ℕ)) (told : List ℕ) (answer : Answer) → IsLogCheckOfReaders logs evidence told answer → answer ≡ Clear →
+    IfSome logs (λ all. (log : NumberedLog) → SpellsLog all log → IsConsistent (log_operations log))
+reader_order None evidence told answer is gives = tt
+reader_order (Some all) evidence told answer is gives = ordered_consistent all is.of_all.bytes ((check_consistent all is.of_all.bytes told answer is.of_all.of_read).0 gives)
+
+-- one on which it is Violation has none
 pub reader_no_order : (logs evidence : Option (List ℕ)) (told : List ℕ) (answer : Answer) → IsLogCheckOfReaders logs evidence told answer → answer ≡ Violation →
     IfSome logs (λ all. (log : NumberedLog) → SpellsLog all log → IsConsistent (log_operations log) → ⊥)
 reader_no_order None evidence told answer is gives = tt

@@ -1,58 +1,92 @@
--- The line on evidence by values about a log: whether it holds, or why it is refused.
-use Rattle.std.specs.Prelude.{◌≡◌, ◌⊎◌, ◌≤◌, ℕ, ◌+◌, false, List, ◌++◌, length, codes, Option}
+-- The line on evidence about a log: whether it holds, or why it is refused.
+use Rattle.std.specs.Prelude.{◌≡◌, ◌⊎◌, ◌≤◌, ℕ, false, List, ◌++◌, length, codes, Option}
 use Rattle.std.specs.Fmt.{decimal}
 use Rattle.tso_ops.specs.Values.{TraceValue}
+use Rattle.tso_model.specs.Axioms.{IsModelOrder}
 use Rattle.tso_text.specs.declared.faults.Why.{Why}
 use Rattle.text_streams.specs.Readings.{ReadsAs}
 use Rattle.log_text.specs.LogTexts.{IsLogRefusal, SpellsLog}
 use Rattle.log_text.specs.LogValues.{NumberedLog, log_operations}
 use Rattle.log_thinning.specs.IdleSwaps.{with_idle_swaps_read}
-use Rattle.value_evidence.specs.declared.steps.ValueEvidence.{ValueEvidence}
-use Rattle.value_evidence.specs.Evidence.{EvidenceHolds}
+use Rattle.value_evidence.specs.declared.refutations.ValueRefutationLine.{ValueRefutationLine}
+use Rattle.value_evidence.specs.Refutations.{ValueRefutationHolds}
+use Rattle.value_texts.specs.declared.names.EventName.{EventName}
 use Rattle.value_texts.specs.declared.refusals.ValueTextRefusal.{ValueTextRefusal}
 use Rattle.value_texts.specs.Names.{event_names}
-use Rattle.value_texts.specs.Printed.{evidence_value}
+use Rattle.value_texts.specs.Printed.{LogEvidenceValue, order_of, refutation_of, event_token}
 use Rattle.value_texts.specs.RefusalNames.{value_refusal_name}
-use Rattle.value_texts.specs.Spelling.{IsValueTextRefusal, SpellsValueEvidence}
-use Rattle.value_check.specs.declared.refusals.ValueRefusal.{ValueRefusal}
-use Rattle.value_check.specs.declared.refusals.ValueRefusal.TheVariants.{StepRefused, EndRefused}
-use Rattle.value_check.specs.Refusals.{IsRefusalOfValues}
+use Rattle.value_texts.specs.Spelling.{IsValueTextRefusal, SpellsLogEvidence}
+use Rattle.order_check.specs.declared.faults.OrderFault.{OrderFault}
+use Rattle.order_check.specs.declared.faults.OrderFault.TheVariants.{NotAnEvent, Repeated, Missing, Broken}
+use Rattle.order_check.specs.Refusals.{IsOrderRefusal, axiom_name}
+use Rattle.value_check.specs.declared.refusals.ValueRefutationFault.{ValueRefutationFault}
+use Rattle.value_check.specs.declared.refusals.ValueRefutationFault.TheVariants.{Misplaced, Unfinished, StepRefused, CaseRefused, EndRefused}
+use Rattle.value_check.specs.RefutationRefusals.{IsValueRefutationRefusal}
 use Rattle.trace_reports.specs.declared.answers.Answer.{Answer}
-use Rattle.trace_reports.specs.declared.answers.Answer.TheVariants.{Violation, Refused}
+use Rattle.trace_reports.specs.declared.answers.Answer.TheVariants.{Clear, Violation, Refused}
 use Rattle.trace_reports.specs.Reports.{rendered_refusal}
 use Rattle.trace_judging.specs.Limits.{certificate_byte_limit}
 
 -- ---- texts
 
 -- the line of evidence that holds
-abbrev pub values_hold_text : List ℕ
-values_hold_text = codes "REFUTATION HOLDS\n"
+abbrev pub holding_line_text : LogEvidenceValue → List ℕ
+holding_line_text (order_of numbers) = codes "ORDER HOLDS\n"
+holding_line_text (refutation_of lines) = codes "REFUTATION HOLDS\n"
+
+-- the refusal of an order, with its place in the line or the name of the event
+abbrev pub log_order_fault_text : List EventName → OrderFault → List ℕ
+log_order_fault_text names (NotAnEvent place) = codes "NotAnEvent place " ++ decimal place
+log_order_fault_text names (Repeated place) = codes "Repeated place " ++ decimal place
+log_order_fault_text names (Missing event) = codes "Missing event " ++ event_token names event
+log_order_fault_text names (Broken law event) = axiom_name law ++ codes " event " ++ event_token names event
+
+-- the refusal of a refutation, with its line where it has one
+abbrev pub value_fault_text : ValueRefutationFault → List ℕ
+value_fault_text (Misplaced line) = codes "Misplaced line " ++ decimal line
+value_fault_text Unfinished = codes "Unfinished"
+value_fault_text (StepRefused line) = codes "StepRefused line " ++ decimal line
+value_fault_text (CaseRefused line) = codes "CaseRefused line " ++ decimal line
+value_fault_text (EndRefused line) = codes "EndRefused line " ++ decimal line
+
+-- the line of an order that doesn't hold, where events have these names; and of a refutation
+abbrev pub log_order_refused_text : List EventName → OrderFault → List ℕ
+log_order_refused_text names fault = codes "ORDER REFUSED " ++ log_order_fault_text names fault ++ codes "\n"
+
+abbrev pub values_refused_text : ValueRefutationFault → List ℕ
+values_refused_text fault = codes "REFUTATION REFUSED " ++ value_fault_text fault ++ codes "\n"
 
 -- the line of a refused text of evidence
 abbrev pub values_unread_text : ℕ → ValueTextRefusal → List ℕ
 values_unread_text line why = codes "EVIDENCE REFUSED " ++ value_refusal_name why ++ codes " line " ++ decimal line ++ codes "\n"
 
--- the refusal of evidence of so many steps, with its line in the text: step K stands on line K, and the end on the line after all steps
-abbrev pub value_fault_text : ℕ → ValueRefusal → List ℕ
-value_fault_text steps (StepRefused number) = codes "StepRefused line " ++ decimal number
-value_fault_text steps EndRefused = codes "EndRefused line " ++ decimal (steps + 1)
-
--- the line of evidence of so many steps that doesn't hold
-abbrev pub values_refused_text : ℕ → ValueRefusal → List ℕ
-values_refused_text steps refusal = codes "REFUTATION REFUSED " ++ value_fault_text steps refusal ++ codes "\n"
-
 -- ---- the report on evidence about a log whose idle swaps are read
 
+-- the evidence holds of the operations of a log: the order is one of its memory model, or the refutation holds
+abbrev pub LogEvidenceHolds : TraceValue → LogEvidenceValue → Type 0
+LogEvidenceHolds t (order_of numbers) = IsModelOrder t numbers
+LogEvidenceHolds t (refutation_of lines) = ValueRefutationHolds t lines
+
+-- the answer of evidence that holds
+abbrev pub answer_of_holding : LogEvidenceValue → Answer
+answer_of_holding (order_of numbers) = Clear
+answer_of_holding (refutation_of lines) = Violation
+
+-- The text is the line of evidence that doesn't hold, by its refusal; events have these names.
+abbrev pub IsLogFailureLine : TraceValue → List EventName → LogEvidenceValue → List ℕ → Type 0
+IsLogFailureLine t names (order_of numbers) text = (fault : OrderFault) × IsOrderRefusal t numbers fault × (text ≡ log_order_refused_text names fault)
+IsLogFailureLine t names (refutation_of lines) text = (fault : ValueRefutationFault) × IsValueRefutationRefusal t lines fault × (text ≡ values_refused_text fault)
+
 -- The text is the line on this evidence about the operations of a log, and the answer is what it says.
-abbrev pub IsValueLine : TraceValue → ValueEvidence → List ℕ → Answer → Type 0
-IsValueLine t e text answer =
-    (EvidenceHolds t e × (text ≡ values_hold_text) × (answer ≡ Violation))
-    ⊎ ((refusal : ValueRefusal) × IsRefusalOfValues t e refusal × (text ≡ values_refused_text (length e.steps.items) refusal) × (answer ≡ Refused))
+abbrev pub IsValueLine : TraceValue → List EventName → LogEvidenceValue → List ℕ → Answer → Type 0
+IsValueLine t names e text answer =
+    (LogEvidenceHolds t e × (text ≡ holding_line_text e) × (answer ≡ answer_of_holding e))
+    ⊎ (IsLogFailureLine t names e text × (answer ≡ Refused))
 
 -- The text is the line on the evidence that the input spells, or on its refusal.
 abbrev pub IsValueReport : NumberedLog → List ℕ → List ℕ → Answer → Type 0
 IsValueReport log input text answer =
-    ((e : ValueEvidence) × SpellsValueEvidence (event_names log) input (evidence_value e) × IsValueLine (log_operations log) e text answer)
+    ((e : LogEvidenceValue) × SpellsLogEvidence (event_names log) input e × IsValueLine (log_operations log) (event_names log) e text answer)
     ⊎ ((line : ℕ) × (why : ValueTextRefusal) × IsValueTextRefusal (event_names log) input line why × (text ≡ values_unread_text line why) × (answer ≡ Refused))
 
 -- ---- the report on two texts
@@ -76,8 +110,15 @@ IsLogCheckOfReader evidence log text answer = ReadsAs evidence (λ input. IsLogC
 abbrev pub IsLogCheckOfReaders : Option (List ℕ) → Option (List ℕ) → List ℕ → Answer → Type 0
 IsLogCheckOfReaders logs evidence text answer = ReadsAs logs (λ log. IsLogCheckOfReader evidence log text answer)
 
--- the first text spells a log, and the second evidence that holds of it, with its idle swaps read
+-- the first text spells a log, and the second this evidence on it, with its idle swaps read, which holds
+abbrev pub SpellHoldingEvidence : List ℕ → List ℕ → LogEvidenceValue → Type 0
+SpellHoldingEvidence log evidence e =
+    (read : NumberedLog) × SpellsLog log read × SpellsLogEvidence (event_names (with_idle_swaps_read read)) evidence e
+    × LogEvidenceHolds (log_operations (with_idle_swaps_read read)) e
+
+-- the same of some refutation, and of some order
 abbrev pub SpellRefutedLog : List ℕ → List ℕ → Type 0
-SpellRefutedLog log evidence =
-    (read : NumberedLog) × SpellsLog log read × (e : ValueEvidence) × SpellsValueEvidence (event_names (with_idle_swaps_read read)) evidence (evidence_value e)
-    × EvidenceHolds (log_operations (with_idle_swaps_read read)) e
+SpellRefutedLog log evidence = (lines : List ValueRefutationLine) × SpellHoldingEvidence log evidence (refutation_of lines)
+
+abbrev pub SpellOrderedLog : List ℕ → List ℕ → Type 0
+SpellOrderedLog log evidence = (order : List ℕ) × SpellHoldingEvidence log evidence (order_of order)

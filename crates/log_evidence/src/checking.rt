@@ -19,11 +19,11 @@ use text_streams::{Fault, read_all, write_text};
 use trace_judging::read_evidence_text;
 use trace_reports::{Answer, AsReport, Report, render_refused};
 
-/// Checks evidence by values against a log: reads the text of the log, then that of the evidence, and writes the line that says
-/// whether it holds.
+/// Checks evidence about a log: reads the text of the log, then that of the evidence, and writes the line that says whether it holds.
 ///
-/// The answer is Violation where the evidence holds, which leaves the log no order of its memory model, else Refused. The evidence
-/// speaks of the log as `read_idle_swaps` reads it, and names events by lines of the log. The log needs no line `end`. A first text
+/// The answer is Clear where it is an order that holds, which the log then has; Violation where it is a refutation that holds, which
+/// leaves the log no order of its memory model; else Refused. The evidence speaks of the log as `read_idle_swaps` reads it, and names
+/// events by lines of the log. The log needs no line `end`. A first text
 /// that is no log is reported by its refusal, and the evidence isn't read then. The log is read to its end; at most 67,108,865 bytes
 /// of the evidence are read. Faults: OutOfMemory where an allocation was refused, or the log has 2^32 loads and stores or more; Read
 /// where a reader failed, didn't show its end within 2,097,152 calls of `read`, or has evidence of more than 67,108,864 bytes; with
@@ -39,6 +39,8 @@ pub fn check_log_evidence<L: Read, E: Read, W: Write>(
         (W.contents writer.new)) }
     ensures no_order { IfOk result (λ answer. answer ≡ Answer.Violation →
         IfSome (L.remaining logs.old) (λ all. (log : NumberedLog) → SpellsLog all log → IsConsistent (log_operations log) → ⊥)) }
+    ensures order { IfOk result (λ answer. answer ≡ Answer.Clear →
+        IfSome (L.remaining logs.old) (λ all. (log : NumberedLog) → SpellsLog all log → IsConsistent (log_operations log))) }
     ensures taken { IfOk result (λ _. IfSome (L.remaining logs.old) (λ all. Consumes (L.remaining logs.old) (L.remaining logs.new) all)) }
     ensures taken_after { IfOk result (λ _. evidence.new ≡ evidence.old ⊎
         LosesPrefix certificate_read_limit (E.remaining evidence.old) (E.remaining evidence.new)) }
@@ -69,7 +71,7 @@ fn report_readers<L: Read, E: Read>(
     report_log_evidence(alloc, &input, evidence)
 }
 
-/// The report on the evidence by values that a reader has, about the log that a text spells; or that of the text's refusal, and then
+/// The report on the evidence that a reader has, about the log that a text spells; or that of the text's refusal, and then
 /// the evidence isn't read. At most 67,108,865 bytes of the evidence are read.
 ///
 /// Faults: OutOfMemory where an allocation was refused, or the log has 2^32 loads and stores or more; Read where the reader failed or

@@ -1,5 +1,5 @@
-//! From the text of a log and that of evidence by values to the report on both: whether the evidence shows that the log has no
-//! order of its memory model.
+//! From the text of a log and that of evidence about it to the report on both: whether the evidence shows that the log has an order of
+//! its memory model, or that it has none.
 //!
 //! `check_log_evidence` reads both texts and writes the line that says so. `README.md` says what is proved.
 #![tactic(auto)]

@@ -6,6 +6,7 @@
 pub use counts::LogCounts;
 pub use findings::{LogFindings, LogViolation, find_violations};
 pub use forms::{AsExplainedLog, AsLogEvidence, AsLogLines, AsLogTraces, LogFound};
+pub use renumbering::Renumbering;
 pub use reports::{LogReporting, report_log};
 pub use value_violations::{ShownEvidence, ShownSource, ShownSources};
 

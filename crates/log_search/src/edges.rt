@@ -32,6 +32,8 @@ pub(crate) enum Why {
     AgreeIn(u32),
     /// All that the first, this load, can have read comes before the second.
     AgreeOut(u32),
+    /// A case supposes it.
+    Supposed,
 }
 
 impl Why {
@@ -45,8 +47,13 @@ impl Why {
             | Why::SwapAfter(load)
             | Why::AgreeIn(load)
             | Why::AgreeOut(load) => Some(load),
-            Why::Chain | Why::LoadOp | Why::Stbar | Why::Membar(_) | Why::Read | Why::Source =>
-                None,
+            Why::Chain
+            | Why::LoadOp
+            | Why::Stbar
+            | Why::Membar(_)
+            | Why::Read
+            | Why::Source
+            | Why::Supposed => None,
         }
     }
 }

@@ -311,7 +311,7 @@ impl Elimination {
     }
 
     /// A load's source is known; what a swap read no other one did.
-    fn learn(&mut self, memory: &Memory, load: u32, source: u32) {
+    pub(crate) fn learn(&mut self, memory: &Memory, load: u32, source: u32) {
         if self.derivation.graph.is_swap_load(load) {
             self.take(memory, load, source);
         }

@@ -88,7 +88,7 @@ impl Explanation {
                 return self.add_stbar(memory, derivation, step.to);
             }
             Why::Membar(barrier) => memory.push(&mut self.barriers, (step.to, barrier)),
-            Why::Read | Why::Source => {}
+            Why::Read | Why::Source | Why::Supposed => {}
             Why::Own(load) | Why::AgreeIn(load) | Why::AgreeOut(load) => {
                 self.add_node(memory, load);
             }

@@ -29,6 +29,11 @@ impl Graph {
         node_at(&self.nodes, node)
     }
 
+    /// How many addresses the nodes have.
+    pub(crate) fn addresses(&self) -> usize {
+        self.groups.addresses()
+    }
+
     /// Whether a node is done.
     #[inline]
     pub(crate) fn is_done(&self, node: u32) -> bool {

@@ -26,6 +26,11 @@ pub(crate) struct Groups {
 }
 
 impl Groups {
+    /// How many addresses there are.
+    pub(crate) fn addresses(&self) -> usize {
+        self.first_readers.len()
+    }
+
     /// The index of the first group of an address, and the index after the last one's.
     pub(crate) fn range(&self, address: u32) -> (u32, u32) {
         (

@@ -4,6 +4,7 @@
 //! What it proposes is checked and judged elsewhere: nothing rests on it. `README.md` says how it goes, and what it misses.
 #![tactic(auto)]
 
+pub use deciding::{DecisionFound, decide};
 pub use efforts::Effort;
 pub use fitting::{fit_trace, is_within_limits};
 pub use reduction::{Judge, reduce};
@@ -15,6 +16,7 @@ mod agreements;
 mod building;
 mod candidates;
 mod chains;
+mod deciding;
 mod derivation;
 mod edges;
 mod efforts;

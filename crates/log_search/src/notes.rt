@@ -68,12 +68,31 @@ impl Notes {
         }
     }
 
-    /// The notes as steps of evidence.
+    /// How many notes there are, but for those of sources that the values alone tell.
+    pub(crate) fn len(&self) -> usize {
+        self.notes.len()
+    }
+
+    /// The notes as steps of evidence: sources that the values alone tell stand before all.
     pub(crate) fn steps(&self, memory: &Memory, known: &KnownLog, graph: &Graph) -> Vec<ValueStep> {
         let all = self.sources.len().saturating_add(self.notes.len());
         let mut steps = memory.room(all);
         push_steps(memory, known, graph, &self.sources, &mut steps);
         push_steps(memory, known, graph, &self.notes, &mut steps);
+        steps
+    }
+
+    /// The notes from one on as steps, but for those of sources that the values alone tell.
+    pub(crate) fn steps_from(
+        &self,
+        memory: &Memory,
+        known: &KnownLog,
+        graph: &Graph,
+        first: usize,
+    ) -> Vec<ValueStep> {
+        let first = first.min(self.notes.len());
+        let mut steps = Vec::new(memory.alloc());
+        push_steps(memory, known, graph, &self.notes[first..], &mut steps);
         steps
     }
 }
@@ -123,6 +142,6 @@ fn step_of(known: &KnownLog, graph: &Graph, note: Note) -> Option<ValueStep> {
             swap: event_of(known, graph, load),
             to: v,
         }),
-        Why::Chain | Why::LoadOp | Why::Stbar | Why::Membar(_) => None,
+        Why::Chain | Why::LoadOp | Why::Stbar | Why::Membar(_) | Why::Supposed => None,
     }
 }

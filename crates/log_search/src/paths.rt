@@ -82,7 +82,13 @@ fn key(cost: u32, node: u32) -> u64 {
 fn cost_of(why: Why) -> u32 {
     match why {
         Why::Chain => 0,
-        Why::LoadOp | Why::Stbar | Why::Membar(_) | Why::Read | Why::Source | Why::Own(_) => BASE,
+        Why::LoadOp
+        | Why::Stbar
+        | Why::Membar(_)
+        | Why::Read
+        | Why::Source
+        | Why::Own(_)
+        | Why::Supposed => BASE,
         Why::LoadPast(_)
         | Why::StorePast(_)
         | Why::SwapBefore(_)

@@ -63,27 +63,8 @@ pub(crate) fn violation_of(
     closing: Closing,
 ) -> ValueViolation {
     let derivation = &elimination.derivation;
-    let mut showing = Showing {
-        known,
-        derivation,
-        candidates: &elimination.candidates,
-        cycle: Vec::new(memory.alloc()),
-        loads: Vec::new(memory.alloc()),
-    };
-    let end = match closing {
-        Closing::Node(node) => {
-            showing.add_cycle(memory, node);
-            let event = match showing.cycle.first().copied() {
-                Some(event) => event,
-                None => event_of(known, &derivation.graph, node),
-            };
-            ValueEnd::Cycle(event)
-        }
-        Closing::First { load, .. } | Closing::OwnFirst { load, .. } | Closing::NoSource(load) => {
-            showing.add_load(memory, load);
-            ValueEnd::NoSource(event_of(known, &derivation.graph, load))
-        }
-    };
+    let mut showing = showing_of(memory, known, elimination);
+    let end = showing.end(memory, closing);
     let loads = showing.all_shown(memory);
     ValueViolation {
         evidence: ValueEvidence {
@@ -95,7 +76,52 @@ pub(crate) fn violation_of(
     }
 }
 
+/// The end of evidence to which an elimination came.
+pub(crate) fn end_of(
+    memory: &Memory,
+    known: &KnownLog,
+    elimination: &Elimination,
+    closing: Closing,
+) -> ValueEnd {
+    showing_of(memory, known, elimination).end(memory, closing)
+}
+
+/// Nothing is shown yet of what an elimination came to.
+fn showing_of<'a>(
+    memory: &Memory,
+    known: &'a KnownLog,
+    elimination: &'a Elimination,
+) -> Showing<'a> {
+    Showing {
+        known,
+        derivation: &elimination.derivation,
+        candidates: &elimination.candidates,
+        cycle: Vec::new(memory.alloc()),
+        loads: Vec::new(memory.alloc()),
+    }
+}
+
 impl Showing<'_> {
+    /// The end of evidence, what it says of being shown.
+    fn end(&mut self, memory: &Memory, closing: Closing) -> ValueEnd {
+        match closing {
+            Closing::Node(node) => {
+                self.add_cycle(memory, node);
+                let event = match self.cycle.first().copied() {
+                    Some(event) => event,
+                    None => event_of(self.known, &self.derivation.graph, node),
+                };
+                ValueEnd::Cycle(event)
+            }
+            Closing::First { load, .. }
+            | Closing::OwnFirst { load, .. }
+            | Closing::NoSource(load) => {
+                self.add_load(memory, load);
+                ValueEnd::NoSource(event_of(self.known, &self.derivation.graph, load))
+            }
+        }
+    }
+
     fn add_load(&mut self, memory: &Memory, load: u32) {
         if let Some(node) = self.derivation.graph.node(load)
             && node.is_load()

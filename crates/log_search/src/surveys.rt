@@ -138,6 +138,14 @@ impl Survey {
         }
     }
 
+    /// All addresses.
+    pub(crate) fn all_addresses(&self) -> Addresses {
+        Addresses {
+            from: 0,
+            to: self.count,
+        }
+    }
+
     /// How many addresses there are.
     pub(crate) fn count(&self) -> usize {
         self.count

@@ -1,5 +1,5 @@
 -- Lemmas on the reports on logs, and on texts with notes.
-use Rattle.std.proofs.Common.{◌≡◌, ◌∙◌, ℕ, List, ◌++◌, Err, None, Ok, Result, Some, IfErr, IfOk, ap, inl, inr, take}
+use Rattle.std.proofs.Common.{◌≡◌, ◌∙◌, ℕ, Bool, List, ◌++◌, Err, None, Ok, Result, Some, IfErr, IfOk, ap, inl, inr, take}
 use Rattle.std.specs.Prelude.{OnErr, Option, codes}
 use Rattle.std.specs.Fmt.{decimal}
 use Rattle.std.specs.Io.KnownBytes.{Appends, Keeps}
@@ -7,12 +7,14 @@ use Rattle.std.proofs.KnownBytes.{Appends-kept}
 use Rattle.request_options.specs.declared.logs.LogOptions.{LogOptions}
 use Rattle.trace_reports.specs.declared.answers.Answer.{Answer}
 use Rattle.log_evidence.specs.LogChecks.{IsLogCheck, IsLogCheckOfReader, IsLogCheckOfReaders}
+use Rattle.log_decisions.specs.LogDecisions.{IsLogDecisionText}
 use Rattle.log_reports.specs.LogReports.{IsLogReport}
 use Rattle.text_streams.proofs.ReadingFacts.{reads_more}
 use Rattle.text_streams.specs.Streams.{AppendsPrefix}
 use Rattle.text_streams.specs.WrittenTexts.{LeavesAtFault, WritesWhole}
 use Rattle.text_streams.specs.declared.faults.Fault.{Fault}
 use Rattle.text_streams.specs.declared.faults.Fault.TheVariants.{OutOfMemory, Read, Write, NoThread, Missing}
+use Rattle.request_serving.specs.Deciding.{IsDecidedLog}
 use Rattle.request_serving.specs.Endings.{EndsWithNotes, IsLogged, Outputs, WritesFaultLine, fault_line}
 use Rattle.request_serving.specs.Presentations.{log_refused_as, logged_as}
 use Rattle.request_texts.specs.OpenedFiles.{HasKnown}
@@ -22,6 +24,12 @@ use Rattle.request_texts.proofs.KnownFacts.{known_reads}
 pub logged_of_known : (options : LogOptions) (known remaining : Option (List ℕ)) → HasKnown known remaining → (text : List ℕ) (verdict : Answer) → IsLogged options remaining text verdict →
     IsLogged options known text verdict
 logged_of_known options known remaining has text verdict = known_reads known remaining has (λ bytes. IsLogReport (logged_as options.form) (log_refused_as options.form) options bytes text verdict)
+
+-- the decision on a file of which less may be known
+pub log_decided_of_known : (effort : ℕ) (needs_end : Bool) (known remaining : Option (List ℕ)) → HasKnown known remaining → (text : List ℕ) (answer : Answer) → IsDecidedLog effort needs_end remaining text answer →
+    IsDecidedLog effort needs_end known text answer
+log_decided_of_known effort needs_end known remaining has text answer =
+    known_reads known remaining has (λ bytes. IsLogDecisionText (record { effort = effort; needs_end = needs_end }) bytes text answer)
 
 -- the check of evidence against a log, of which less may be known than their readers have
 pub log_check_of_known : (log logs evidence pieces : Option (List ℕ)) → HasKnown log logs → HasKnown evidence pieces → (text : List ℕ) (answer : Answer) → IsLogCheckOfReaders logs pieces text answer →

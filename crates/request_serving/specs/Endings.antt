@@ -23,7 +23,7 @@ use Rattle.request_options.specs.declared.following.FollowOptions.{FollowOptions
 use Rattle.outcome_reports.specs.SeenTraces.{IsSeenOfReaders}
 use Rattle.request_serving.specs.Batches.{AreTextsOfBatch}
 use Rattle.run_serving.specs.Campaigning.{IsCampaignText, LeavesCampaignText}
-use Rattle.request_serving.specs.Deciding.{IsDecided, IsVerificationOfNth}
+use Rattle.request_serving.specs.Deciding.{IsDecided, IsDecidedLog, IsVerificationOfNth}
 use Rattle.request_serving.specs.Evidence.{IsReportOfNth}
 use Rattle.run_serving.specs.MadePrograms.{IsMadeText, LeavesMadeText}
 use Rattle.request_texts.specs.NthTraces.{IsWrittenOfNth}
@@ -43,7 +43,7 @@ use Rattle.command_line.specs.declared.requests.Request.TheVariants.{Show, Refus
 use Rattle.command_line.specs.Commands.{IsAskedFor}
 use Rattle.command_line.specs.Refusals.{Refuses}
 use Rattle.command_line.specs.Spellings.{Asks, AsksHelp}
-use Rattle.command_line.specs.Requests.{Asked, Text, judging, deciding, reducing, batching, logging, following, checking, verifying, verifying_log, listing, counting, replaying, running, repeating, making, campaigning, showing, refusing}
+use Rattle.command_line.specs.Requests.{Asked, Text, judging, deciding, deciding_log, reducing, batching, logging, following, checking, verifying, verifying_log, listing, counting, replaying, running, repeating, making, campaigning, showing, refusing}
 
 -- ---- the lines of faults
 
@@ -183,6 +183,7 @@ EndsAsAsked (deciding presentation file workers nth effort) input files o status
 EndsAsAsked (reducing file nth) input files o status = EndsWithNotes (IsReduced nth (text_bytes file input files)) status_of o status
 EndsAsAsked (batching texts workers printing) input files o status = EndsBatched printing (AreTextsOfBatch texts input files) o status
 EndsAsAsked (logging file options) input files o status = EndsLogged options (text_bytes file input files) o status
+EndsAsAsked (deciding_log file effort needs_end) input files o status = EndsWithoutThread (IsDecidedLog effort needs_end (text_bytes file input files)) status_of_answer o status
 EndsAsAsked (following file options) input files o status = EndsWithoutThread (IsFollowedRun options (text_bytes file input files)) status_of_answer o status
 EndsAsAsked (checking trace certificate nth) input files o status = EndsWithoutThread (IsCheckOfNth nth (text_bytes trace input files) (text_bytes certificate input files)) status_of o status
 EndsAsAsked (verifying trace evidence nth) input files o status =

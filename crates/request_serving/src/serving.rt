@@ -15,6 +15,7 @@ use crate::serving::following::follow_named;
 use crate::serving::judging::judge_named;
 use crate::serving::listing::list_named;
 use crate::serving::log_checking::check_log_named;
+use crate::serving::log_deciding::decide_log_named;
 use crate::serving::logging::log_named;
 use crate::serving::reducing::reduce_named;
 use command_line::Request;
@@ -36,6 +37,7 @@ mod following;
 mod judging;
 mod listing;
 mod log_checking;
+mod log_deciding;
 mod logging;
 mod reducing;
 mod reporting;
@@ -52,16 +54,17 @@ const _: () = prove!(command_line::MAX_REQUESTED_WORKERS == MAX_WORKERS);
 /// neither was found with as many steps as the request names; or the explanation or the picture of that. `Reduce` writes a
 /// small trace that shows the violation of the trace, with lines on its operations to `errors`. `Batch` writes a line for each
 /// of the traces of texts, by a verdict or a decision, or the texts of those that are violations, with their numbers to
-/// `errors`. `Log` writes the violations of a log, or their traces, or the evidence by values of one. `Follow` writes whether
-/// the lines of a run are steps of the machine, and which aren't. `Check` checks a certificate against a trace and writes the
-/// report of both; `Verify` checks an order or a refutation, and writes whether it holds; `VerifyLog` checks evidence by values
-/// against a log, the first text, and writes whether it holds. `Outcomes` writes the traces that complete runs of a program
-/// leave, or its final states; `Seen` how often a stream of traces has each of these traces.
+/// `errors`. `Log` writes the violations of a log, or their traces, or the evidence by values of one; `DecideLog` an order of a
+/// log, or a refutation of all orders, or that neither was found. `Follow` writes whether the lines of a run are steps of the
+/// machine, and which aren't. `Check` checks a certificate against a trace and writes the report of both; `Verify` checks an
+/// order or a refutation, and writes whether it holds, and so does `VerifyLog` of a log, the first text. `Outcomes` writes the
+/// traces that complete runs of a program leave, or its final states; `Seen` how often a stream of traces has each of these
+/// traces.
 ///
 /// The status of these is that of what they say: 0 where no violation was found, or there is an order or it holds; 1 where none
 /// was found in the part of a log that was searched, nothing was decided, or a run compared no value; 2 where a text, a
 /// certificate or evidence was refused, or runs reach too many states; 3 at a violation, a line of a run that is no step, or a
-/// certificate, a refutation or evidence by values that holds. `Replay` and `Run` print what a record gives: never a violation
+/// certificate or a refutation that holds. `Replay` and `Run` print what a record gives: never a violation
 /// where the unit is lawful for programs of the memory model that the program's text names, so their status isn't 3 there. A
 /// run whose request names turns of a drainer, at most 1,000,000, has one beside its processors. `RunTimes` writes the trace of
 /// each run as it ends. `Show` writes its text to `writer`, with status 0, and `Refuse` to `errors`, with status 2. At a fault
@@ -111,6 +114,10 @@ pub fn serve<H: Threads + Wait + Sync + AllocGlobal, O: Environment, R: Read, W:
             let reported = log_named(rt, request, files, reader, writer, errors);
             files.finish();
             end_answer(reported, errors)
+        }
+        Request::DecideLog(request) => {
+            let decided = decide_log_named(rt.alloc(), request, files, reader, writer);
+            end_answer(decided, errors)
         }
         Request::Follow(request) => {
             let followed = follow_named(rt.alloc(), request, files, reader, writer);

@@ -3,7 +3,7 @@ use Rattle.std.specs.Prelude.{◌≡◌, ◌⊎◌, ℕ, Bool, false, ◌≤◌,
 use Rattle.std.specs.List.{list_all}
 use Rattle.std.specs.Borrow.{Bor}
 use Rattle.std.specs.Io.KnownBytes.{Consumes}
-use Rattle.command_line.specs.Requests.{Asked, batching, checking, counting, deciding, following, judging, logging, needs, reducing, replaying, verifying, verifying_log}
+use Rattle.command_line.specs.Requests.{Asked, batching, checking, counting, deciding, deciding_log, following, judging, logging, needs, reducing, replaying, verifying, verifying_log}
 use Rattle.log_text.specs.LogTexts.{IsLogRefusal}
 use Rattle.request_texts.specs.NthTraces.{IsRefusedNth, TakesTrace}
 use Rattle.trace_judging.specs.Limits.{certificate_read_limit}
@@ -36,6 +36,7 @@ reads_input asked = not (list_all is_some (needs asked).texts)
 abbrev pub TakesInput : Asked → Option (List ℕ) → Option (List ℕ) → Type 0
 TakesInput (batching texts workers printing) old new = IfSome old (λ all. Consumes old new all)
 TakesInput (logging file options) old new = IfSome old (λ all. Consumes old new all)
+TakesInput (deciding_log file effort needs_end) old new = IfSome old (λ all. Consumes old new all)
 TakesInput (following file options) old new = (bytes : List ℕ) × Consumes old new bytes
 TakesInput (judging presentation file workers nth) old new = TakesTrace nth old new
 TakesInput (deciding presentation file workers nth effort) old new = TakesTrace nth old new

@@ -1,5 +1,6 @@
 //! Of the crates that answer a question about a text or a stream.
 
+use log_decisions::{LogQuestion, decide_log};
 use log_evidence::check_log_evidence;
 use log_reports::{AsExplainedLog, LogReporting, report_log};
 use outcome_reports::{count_seen, list_outcomes};
@@ -93,7 +94,21 @@ pub fn report_a_log<H: Threads + Wait + AllocGlobal, R: Read, W: Write, E: Write
     Ok(verdict)
 }
 
-/// `log_evidence`: whether a reader's evidence by values holds of the log of another.
+/// `log_decisions`: whether a reader's log has an order of its memory model.
+pub fn decide_on_a_log<R: Read, W: Write>(
+    alloc: Global,
+    reader: &mut R,
+    writer: &mut W,
+) -> Result<Answer, Fault> {
+    let question = LogQuestion {
+        effort: 100,
+        needs_end: false,
+    };
+    let answer = decide_log(alloc, question, reader, writer)?;
+    Ok(answer)
+}
+
+/// `log_evidence`: whether a reader's evidence holds of the log of another.
 pub fn check_evidence_on_a_log<L: Read, E: Read, W: Write>(
     alloc: Global,
     logs: &mut L,

@@ -6,7 +6,7 @@ ghost use Rattle.tso_ops.specs.Events.{IsUnwritten};
 use acyclic_traces::is_shown_acyclic;
 use chain_rules::{RoundCount, count_rounds};
 use final_states::{FinalState, StatesFault, final_states};
-use log_search::{Found, Search, ValueFound, ValueSearch};
+use log_search::{DecisionFound, Found, Search, ValueFound, ValueSearch, decide};
 use log_selections::{Kept, KnownLog, Selected};
 use log_text::Log;
 use log_thinning::{Thinned, read_idle_swaps, thin};
@@ -98,6 +98,15 @@ pub fn search_a_log_by_values(alloc: Global, known: &KnownLog) -> Result<ValueFo
     let mut values = ValueSearch::new(alloc, known, 100)?;
     let violation = values.run(alloc, &NoMeter)?;
     Ok(violation)
+}
+
+/// `log_search`: an order of a log's stores, or a refutation of all orders.
+pub fn search_a_log_for_an_order(
+    alloc: Global,
+    known: &KnownLog,
+) -> Result<DecisionFound, OutOfMemory> {
+    let decision = decide(alloc, known, 100)?;
+    Ok(decision)
 }
 
 /// `log_thinning`: a log without loads that say no more than others.

@@ -12,9 +12,9 @@ use tso_cert::{Certificate, read_cert};
 use tso_evidence::{Evidence, read_evidence};
 use tso_ops::{OutOfMemory, Outcome, Program, Refused, Trace};
 use tso_text::{MAX_TEXT_BYTES, TextFault, Why, read_trace};
-use value_evidence::ValueEvidence;
+use value_evidence::LogEvidence;
 use value_texts::{
-    ValuePrintRefusal, ValueTextFault, names_of, print_value_evidence, read_value_evidence,
+    ValuePrintRefusal, ValueTextFault, names_of, print_log_evidence, read_log_evidence,
 };
 
 /// `tso_ops`: the trace of these lists of operations, one for each processor, or its refusal.
@@ -97,11 +97,11 @@ pub fn next_of_a_stream<R: Read>(
 pub fn evidence_read_back(
     alloc: Global,
     log: &Log,
-    evidence: &ValueEvidence,
+    evidence: &LogEvidence,
     text: &mut String,
-) -> Result<Result<ValueEvidence, ValueTextFault>, ValuePrintRefusal> {
+) -> Result<Result<LogEvidence, ValueTextFault>, ValuePrintRefusal> {
     let names = names_of(alloc, log)?;
-    print_value_evidence(text, &names, evidence)?;
-    let read = read_value_evidence(alloc, &names, text.as_bytes());
+    print_log_evidence(text, &names, evidence)?;
+    let read = read_log_evidence(alloc, &names, text.as_bytes());
     Ok(read)
 }

@@ -8,7 +8,9 @@ use Rattle.std.proofs.Math.Seq.{take-length}
 use Rattle.tso_ops.specs.Values.{TraceValue}
 use Rattle.value_evidence.specs.declared.steps.ValueStep.{ValueStep}
 use Rattle.value_evidence.specs.declared.steps.ValueEvidence.{ValueEvidence}
-use Rattle.value_evidence.specs.Evidence.{AllStepsHold, EndHolds, EvidenceHolds, ValueStepHolds}
+use Rattle.value_evidence.specs.Evidence.{AllStepsHold, EvidenceHolds, ValueStepHolds}
+use Rattle.value_evidence.specs.Refutations.{EndHoldsBeside}
+use Rattle.value_evidence.proofs.RefutationFacts.{end_from, end_to}
 use Rattle.value_check.specs.declared.known.Known.{Known}
 use Rattle.value_check.specs.declared.refusals.ValueRefusal.{ValueRefusal}
 use Rattle.value_check.specs.declared.refusals.ValueRefusal.TheVariants.{StepRefused, EndRefused}
@@ -48,12 +50,13 @@ module _ (t : TraceValue) (evidence : ValueEvidence) (k : ℕ) (whole : k ≡ le
   all_taken = ap (λ n. take n evidence.steps.items) whole ∙ take-length evidence.steps.items
 
   -- evidence of which each step holds, and the end
-  pub evidence_holds : EndHolds t (take k evidence.steps.items) evidence.end → EvidenceHolds t evidence
-  evidence_holds ends = record { steps = all_hold; ends = subst (λ all. EndHolds t all evidence.end) all_taken ends }
+  pub evidence_holds : EndHoldsBeside t (take k evidence.steps.items) [] evidence.end → EvidenceHolds t evidence
+  evidence_holds ends = record { steps = all_hold; ends = end_from t evidence.steps.items evidence.end (subst (λ all. EndHoldsBeside t all [] evidence.end) all_taken ends) }
 
   -- or not the end
-  pub end_refused : (EndHolds t (take k evidence.steps.items) evidence.end → ⊥) → IsRefusalOfValues t evidence EndRefused
-  end_refused fails = (all_hold, λ ends. fails (subst (λ all. EndHolds t all evidence.end) (sym all_taken) ends))
+  pub end_refused : (EndHoldsBeside t (take k evidence.steps.items) [] evidence.end → ⊥) → IsRefusalOfValues t evidence EndRefused
+  end_refused fails =
+      (all_hold, λ ends. fails (subst (λ all. EndHoldsBeside t all [] evidence.end) (sym all_taken) (end_to t evidence.steps.items evidence.end ends)))
 
 -- evidence that is refused doesn't hold
 pub refused_fails : (t : TraceValue) (evidence : ValueEvidence) (refusal : ValueRefusal) → IsRefusalOfValues t evidence refusal → EvidenceHolds t evidence → ⊥

@@ -16,13 +16,13 @@ use Rattle.value_evidence.specs.Evidence.{ValueStepHolds}
 use Rattle.value_check.specs.declared.known.Known.{Known}
 use Rattle.value_check.specs.declared.noted.Noted.{Noted}
 use Rattle.value_check.specs.Internal.Cells.{AreCells, class_in}
-use Rattle.value_check.specs.Internal.Known.{IsKnownBy, IsKnownFrom, SaysJust, Takes, TakesFirst, address_only, value_key}
+use Rattle.value_check.specs.Internal.Known.{IsKnownBy, IsKnownFrom, IsOfEvents, SaysJust, Takes, TakesFirst, address_only, value_key}
 use Rattle.value_check.specs.Internal.Noted.{IsNotedAt, noted_at}
 use Rattle.value_check.proofs.LeadingFacts.{contained_cases, joined_leads, joined_path, last_contained, more_contained, more_paths, same_paths}
 use Rattle.value_check.proofs.NotedFacts.{noted_same, noted_there}
 
 -- what a step that holds says is of events
-pub said_events : (t : TraceValue) (steps : List ValueStep) (step : ValueStep) → ValueStepHolds t steps step → (u v : ℕ) → SaysBefore step u v → IsEvent t u × IsEvent t v
+said_events : (t : TraceValue) (steps : List ValueStep) (step : ValueStep) → ValueStepHolds t steps step → (u v : ℕ) → SaysBefore step u v → IsEvent t u × IsEvent t v
 said_events t steps (Read l s) holds u v said = absurd said
 said_events t steps (In from l) holds u v said = (subst (IsEvent t) said.0 holds.0, subst (IsEvent t) said.1 (load_event t l holds.1))
 said_events t steps (Out l to) holds u v said = (subst (IsEvent t) said.0 (load_event t l holds.0), subst (IsEvent t) said.1 (store_event t to holds.1))
@@ -31,6 +31,10 @@ said_events t steps (SwapAfter m to) holds u v said =
     (subst (IsEvent t) said.0 (store_event t (suc m) (IsSwapLoad-store t m holds.0)), subst (IsEvent t) said.1 (store_event t to holds.1))
 said_events t steps (SwapBefore from m) holds u v said =
     (subst (IsEvent t) said.0 (store_event t from holds.1), subst (IsEvent t) said.1 (holds.0.0, holds.0.1))
+
+-- a step that holds speaks of events
+pub of_events : (t : TraceValue) (steps : List ValueStep) (step : ValueStep) → ValueStepHolds t steps step → IsOfEvents t step
+of_events t steps step holds = record { pairs = said_events t steps step holds; loads = λ l r same. (subst (ValueStepHolds t steps) same holds).0 }
 
 -- the parts of two steps that say sources
 same_load : (l s m r : ℕ) → Read l s ≡ Read m r → l ≡ m

@@ -33,19 +33,19 @@ index_is t n event = by_number n (event_above_zero t n event)
     by_number zero above = absurd (omega arith)
     by_number (suc x) above = (x, refl)
 
-module _ (steps : List ValueStep) (step : ValueStep) where
+module _ {X : Type 0} (steps : List X) (step : X) where
   -- the last item of a list
   pub last_contained : Contains (steps ++ step ∷ []) step
   last_contained = let one : 0 < 1 = lit< tt in Contains-append_right steps (step ∷ []) step (0, one, refl)
 
-  pub more_contained : (x : ValueStep) → Contains steps x → Contains (steps ++ step ∷ []) x
+  pub more_contained : (x : X) → Contains steps x → Contains (steps ++ step ∷ []) x
   more_contained x among = Contains-append_left steps (step ∷ []) x among
 
   -- it is the last one, or among those before
-  pub contained_cases : (x : ValueStep) → Contains (steps ++ step ∷ []) x → Contains steps x ⊎ (step ≡ x)
+  pub contained_cases : (x : X) → Contains (steps ++ step ∷ []) x → Contains steps x ⊎ (step ≡ x)
   contained_cases x among = elim (Contains-append_cases steps (step ∷ []) x among) [ inl before ↦ inl before | inr last ↦ inr (one x last) ]
     where
-      one : (x : ValueStep) → Contains (step ∷ []) x → step ≡ x
+      one : (x : X) → Contains (step ∷ []) x → step ≡ x
       one x (zero, below, is) = is
       one x (suc k, below, is) = absurd (omega arith)
 

@@ -10,7 +10,7 @@ use Rattle.value_evidence.specs.declared.steps.ValueStep.{ValueStep}
 use Rattle.value_evidence.specs.declared.steps.ValueStep.TheVariants.{Read}
 use Rattle.value_evidence.specs.Candidates.{CanRead, ComesBefore, IsGone, IsPairBy, IsProgramPair, SaysBefore, SeesStore, behind, known, over, taken}
 use Rattle.value_check.specs.declared.settling.Demand.{Demand}
-use Rattle.value_check.specs.declared.settling.Demand.TheVariants.{Is, After, Before, UpTo, Nothing}
+use Rattle.value_check.specs.declared.settling.Demand.TheVariants.{Is, After, Before, UpTo, SetAside}
 use Rattle.value_check.specs.declared.settling.Question.{Question}
 use Rattle.value_check.specs.Internal.Known.{IsTaken}
 use Rattle.value_check.specs.Internal.Settling.{AreInOrder, AreLastSeen, IsAsked, IsLedOn, IsLedTo, IsOver, IsSettled, IsUpToInProgram, Meets, Settles, SettlesAfter, SettlesBefore}
@@ -106,7 +106,7 @@ module _ (t : TraceValue) (steps : List ValueStep) where
     led_on_meets (After from) r up_to led = absurd led
     led_on_meets (Before to) r up_to led = inr (path_from t steps r (suc x) (suc to) up_to led)
     led_on_meets (UpTo to) r up_to led = inr (path_from t steps r (suc x) (suc to) up_to led)
-    led_on_meets Nothing r up_to led = absurd led
+    led_on_meets (SetAside numbers) r up_to led = absurd led
 
     -- with a store what is before it in program order is settled
     pub settled_before : SettlesBefore t steps q x → (r : ℕ) → IsUpToInProgram t r (suc x) → IsSettled t steps (suc q.load) q.wanted r
@@ -119,7 +119,7 @@ module _ (t : TraceValue) (steps : List ValueStep) where
         (above_zero t x r from, still_later t steps (suc q.load) (suc x) r later from, inr (path_to t steps (suc start) (suc x) r led from))
     led_to_meets (Before to) r later from led = absurd led
     led_to_meets (UpTo to) r later from led = absurd led
-    led_to_meets Nothing r later from led = absurd led
+    led_to_meets (SetAside numbers) r later from led = absurd led
 
     -- and with one what is after it
     pub settled_after : SettlesAfter t steps q x → (r : ℕ) → (r ≡ suc x) ⊎ IsProgramPair t (suc x) r → IsSettled t steps (suc q.load) q.wanted r
@@ -132,7 +132,7 @@ module _ (t : TraceValue) (steps : List ValueStep) where
     asked_meets (After from) asked = (omega arith, asked.1, inl (ap suc asked.0))
     asked_meets (Before to) asked = absurd asked
     asked_meets (UpTo to) asked = inl (ap suc asked)
-    asked_meets Nothing asked = absurd asked
+    asked_meets (SetAside numbers) asked = asked
 
     -- one that meets it is as asked, or comes before or after something
     meets_cases : (wanted : Demand) → Meets t steps (suc q.load) wanted (suc x) →
@@ -144,7 +144,7 @@ module _ (t : TraceValue) (steps : List ValueStep) where
     meets_cases (Before to) (inr path) = inr (inl path)
     meets_cases (UpTo to) (inl same) = inl (omega (arith, same))
     meets_cases (UpTo to) (inr path) = inr (inl path)
-    meets_cases Nothing meets = absurd meets
+    meets_cases (SetAside numbers) meets = inl meets
 
     -- a settled store that isn't so by what it comes before or after, nor by what was read, is as asked
     pub settled_rest : (SettlesBefore t steps q x → ⊥) → (SettlesAfter t steps q x → ⊥) → (IsTaken t steps (suc q.load) (suc x) → ⊥) →

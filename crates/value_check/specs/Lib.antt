@@ -1,2 +1,3 @@
 pub mod Internal
 pub mod Refusals
+pub mod RefutationRefusals

@@ -33,7 +33,7 @@ pub fn check_values(
         }
         known.follow(*step);
     }
-    if known.ends(alloc, evidence.end)? {
+    if known.ends(alloc, evidence.end, &[])? {
         Ok(Ok(()))
     } else {
         Ok(Err(ValueRefusal::EndRefused))

@@ -1,19 +1,37 @@
 //! What is known after a step.
-ghost use Rattle.std.specs.Prelude.{◌∷◌, ◌++◌, ◌<◌, [], suc, length, List};
+ghost use Rattle.std.specs.Prelude.{◌∷◌, ◌++◌, ◌<◌, [], suc, length, List, All, IfOk};
 ghost use Rattle.tso_ops.specs.Values.{TraceValue};
 ghost use Rattle.tso_ops.specs.Events.{IsEvent, IsLoad, IsSwapLoad};
 ghost use Rattle.value_evidence.specs.declared.steps.ValueStep.{ValueStep};
-ghost use Rattle.value_evidence.specs.Evidence.{ValueStepHolds};
-ghost use Rattle.value_check.specs.Internal.Known.{IsKnownBy, IsKnownFrom, SaysJust};
+ghost use Rattle.program_chains.specs.LogEvents.{log_trace};
+ghost use Rattle.value_check.specs.Internal.Known.{IsKnownBy, IsKnownFrom, IsOfEvents, SaysJust};
 
 use crate::known::Known;
 use crate::noted::note;
+use log_text::Log;
+use std::alloc::Global;
+use tso_ops::OutOfMemory;
 use value_evidence::ValueStep;
 
 impl Known {
-    /// From now on the step, which follows from what was known, counts as known.
+    /// What is known of a log by some steps. OutOfMemory as for `new`.
+    pub(crate) fn by_steps(
+        alloc: Global,
+        log: &Log,
+        steps: &[ValueStep],
+    ) -> Result<Known, OutOfMemory>
+        ensures { IfOk result (λ known. All (IsOfEvents (log_trace log.now)) steps.now → IsKnownBy (log_trace log.now) steps.now known) }
+    {
+        let mut known = Known::new(alloc, log)?;
+        for step in steps {
+            known.follow(*step);
+        }
+        Ok(known)
+    }
+
+    /// From now on the step counts as known.
     pub(crate) fn follow(&mut self, step: ValueStep)
-        ensures { (t : TraceValue) (steps : List ValueStep) → IsKnownBy t steps self.old → ValueStepHolds t steps step →
+        ensures { (t : TraceValue) (steps : List ValueStep) → IsKnownBy t steps self.old → IsOfEvents t step →
             IsKnownBy t (steps ++ step ∷ []) self.new }
     {
         match step {

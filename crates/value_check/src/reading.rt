@@ -12,7 +12,7 @@ ghost use Rattle.value_check.specs.Internal.Showing.{ShowsAll};
 ghost use Rattle.value_check.specs.Internal.Settling.{AreLastSeen, AreSeen, AreSeenFirst, HasUnsettledIn, Meets, SettlesIn};
 
 use crate::known::Known;
-use crate::settling::{Demand, Question};
+use crate::settling::{Demand, Question, is_one_of};
 use std::alloc::Global;
 use tso_ops::OutOfMemory;
 
@@ -56,12 +56,12 @@ impl Known {
         if self.read_another(question.load, 0) {
             return true;
         }
-        match question.wanted {
-            Demand::Is(number) => number == 0,
+        match &question.wanted {
+            Demand::Is(number) => *number == 0,
             Demand::Before(_) => true,
             Demand::After(_) => false,
             Demand::UpTo(_) => false,
-            Demand::Nothing => false,
+            Demand::SetAside(numbers) => is_one_of(numbers, 0),
         }
     }
 

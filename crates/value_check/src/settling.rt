@@ -1,5 +1,6 @@
 //! Whether all that a load can have read is as a step asks.
 ghost use Rattle.std.specs.Prelude.{◌≤◌, ◌<◌, ◌↔◌, ℕ, suc, List, length, slice_index, IsTrue, MatchBool};
+ghost use Rattle.std.specs.List.{Contains};
 ghost use Rattle.tso_ops.specs.Values.{TraceValue};
 ghost use Rattle.tso_ops.specs.Events.{HasSource};
 ghost use Rattle.value_evidence.specs.declared.steps.ValueStep.{ValueStep};
@@ -8,8 +9,8 @@ ghost use Rattle.value_check.specs.Internal.Settling.{AreInOrder, AreSeen, AreSo
 
 use crate::known::Known;
 
-/// What a step asks of each number that a load can have read. Events go by their indices.
-#[derive(Clone, Copy)]
+/// What a step or an end asks of each number that a load can have read. Events go by their indices.
+#[derive(Drop)]
 pub(crate) enum Demand {
     /// It is this number.
     Is(usize),
@@ -19,8 +20,8 @@ pub(crate) enum Demand {
     Before(usize),
     /// It is this event, or comes before it.
     UpTo(usize),
-    /// There is none.
-    Nothing,
+    /// It is one of these numbers, which are set aside.
+    SetAside(Vec<usize>),
 }
 
 /// A load with what is asked of what it can have read, and the last stores that it sees.
@@ -54,12 +55,12 @@ impl Known {
         if self.is_over(question, store) {
             return true;
         }
-        match question.wanted {
-            Demand::Before(to) => self.leads(store, to),
-            Demand::UpTo(to) => self.leads(store, to),
+        match &question.wanted {
+            Demand::Before(to) => self.leads(store, *to),
+            Demand::UpTo(to) => self.leads(store, *to),
             Demand::Is(_) => false,
             Demand::After(_) => false,
-            Demand::Nothing => false,
+            Demand::SetAside(_) => false,
         }
     }
 
@@ -73,25 +74,26 @@ impl Known {
         if self.leads(question.load, store) {
             return true;
         }
-        match question.wanted {
-            Demand::After(from) => self.leads(from, store),
+        match &question.wanted {
+            Demand::After(from) => self.leads(*from, store),
             Demand::Is(_) => false,
             Demand::Before(_) => false,
             Demand::UpTo(_) => false,
-            Demand::Nothing => false,
+            Demand::SetAside(_) => false,
         }
     }
 
     /// Whether a store itself is as the step asks.
-    fn is_asked(&self, question: &Question, store: usize) -> bool
+    fn is_asked(&self, question: &Question, store: u32) -> bool
         ensures { (t : TraceValue) (steps : List ValueStep) → IsKnownBy t steps self.now → IsTrue result ↔ IsAsked t question.now question.now.wanted store }
     {
-        match question.wanted {
-            Demand::Is(number) => number > 0 && number - 1 == store,
-            Demand::After(from) => from == store && !self.is_earlier(store, question.load),
-            Demand::UpTo(to) => store == to,
+        let x = store as usize;
+        match &question.wanted {
+            Demand::Is(number) => *number == x + 1,
+            Demand::After(from) => *from == x && !self.is_earlier(x, question.load),
+            Demand::UpTo(to) => x == *to,
             Demand::Before(_) => false,
-            Demand::Nothing => false,
+            Demand::SetAside(numbers) => is_one_of(numbers, x + 1),
         }
     }
 
@@ -113,7 +115,7 @@ impl Known {
         if self.read_another(question.load, x + 1) {
             return true;
         }
-        self.is_asked(question, x)
+        self.is_asked(question, store)
     }
 
     /// So many of some stores in program order, from the first on, are settled by the last of them.
@@ -171,4 +173,11 @@ impl Known {
         }
         true
     }
+}
+
+/// Whether a number is one of these.
+pub(crate) fn is_one_of(numbers: &[usize], number: usize) -> bool
+    ensures { IsTrue result ↔ Contains numbers.now number }
+{
+    numbers.contains(&number)
 }

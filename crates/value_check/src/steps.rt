@@ -1,5 +1,6 @@
 //! Whether a step follows from what is known, and what is known after it.
-ghost use Rattle.std.specs.Prelude.{IfOk};
+ghost use Rattle.std.specs.Prelude.{◌↔◌, ℕ, List, IfOk};
+ghost use Rattle.std.specs.List.{Contains};
 ghost use Rattle.value_check.specs.Internal.Showing.{ShowsEnd, ShowsStep};
 
 use crate::known::Known;
@@ -146,18 +147,29 @@ impl Known {
         self.leads(u, m + 1)
     }
 
-    /// Whether what is known leaves no order. OutOfMemory where an allocation was refused.
-    pub(crate) fn ends(&self, alloc: Global, end: ValueEnd) -> Result<bool, OutOfMemory>
-        ensures { IfOk result (ShowsEnd self.now end) }
+    /// Whether what is known leaves no order in which no load reads what is set aside of it. OutOfMemory where an allocation was
+    /// refused.
+    pub(crate) fn ends(
+        &self,
+        alloc: Global,
+        end: ValueEnd,
+        aside: &[(usize, usize)],
+    ) -> Result<bool, OutOfMemory>
+        ensures { IfOk result (ShowsEnd self.now aside.now end) }
     {
         match end {
-            ValueEnd::NoSource(load) => self.has_no_source(alloc, load),
+            ValueEnd::NoSource(load) => self.has_no_source(alloc, load, aside),
             ValueEnd::Cycle(event) => Ok(self.is_on_cycle(event)),
         }
     }
 
-    fn has_no_source(&self, alloc: Global, load: usize) -> Result<bool, OutOfMemory>
-        ensures { IfOk result (ShowsEnd self.now (ValueEnd.NoSource load)) }
+    fn has_no_source(
+        &self,
+        alloc: Global,
+        load: usize,
+        aside: &[(usize, usize)],
+    ) -> Result<bool, OutOfMemory>
+        ensures { IfOk result (ShowsEnd self.now aside.now (ValueEnd.NoSource load)) }
     {
         let Some(l) = self.index_of(load) else {
             return Ok(false);
@@ -165,15 +177,32 @@ impl Known {
         if !self.is_load(l) {
             return Ok(false);
         }
-        self.are_all(alloc, l, Demand::Nothing)
+        self.are_all(alloc, l, Demand::SetAside(set_aside(alloc, load, aside)?))
     }
 
     fn is_on_cycle(&self, event: usize) -> bool
-        ensures { ShowsEnd self.now (ValueEnd.Cycle event) result }
+        ensures { (aside : List (ℕ × ℕ)) → ShowsEnd self.now aside (ValueEnd.Cycle event) result }
     {
         match self.index_of(event) {
             Some(x) => self.leads(x, x),
             None => false,
         }
     }
+}
+
+/// The sources of a load that are set aside.
+fn set_aside(
+    alloc: Global,
+    load: usize,
+    aside: &[(usize, usize)],
+) -> Result<Vec<usize>, OutOfMemory>
+    ensures { IfOk result (λ numbers. (r : ℕ) → Contains numbers.items r ↔ Contains aside.now (load, r)) }
+{
+    let mut numbers = Vec::new(alloc);
+    for pair in aside {
+        if pair.0 == load {
+            numbers.push(pair.1)?;
+        }
+    }
+    Ok(numbers)
 }

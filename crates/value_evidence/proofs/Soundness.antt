@@ -1,14 +1,14 @@
 -- Soundness: in each order of the model what evidence says holds, so evidence that ends leaves no order.
-use Rattle.std.proofs.Common.{◌≡◌, ◌≢◌, ◌⊎◌, ℕ, zero, suc, ◌<◌, ◌≤◌, List, [], ◌∷◌, ◌++◌, inl, inr, refl, sym, subst, length, take, arith}
+use Rattle.std.proofs.Common.{◌≡◌, ◌⊎◌, ℕ, zero, suc, ◌<◌, ◌≤◌, List, [], ◌∷◌, ◌++◌, inl, inr, refl, sym, subst, length, take, arith}
 use Rattle.std.specs.Prelude.{get_or}
 use Rattle.std.proofs.Math.Seq.{take-suc, take-length}
 use Rattle.std.proofs.lemmas.Option.{slice_get-get_or}
 use Rattle.std.specs.List.{Contains}
 use Rattle.std.proofs.lemmas.List.Elements.{Contains-append_cases}
 use Rattle.tso_ops.specs.Values.{TraceValue}
-use Rattle.tso_ops.specs.Events.{IsEvent, IsLoad, IsStore, IsSwapLoad, HasSource, SameAddress, Earlier}
+use Rattle.tso_ops.specs.Events.{IsLoad, IsStore, Earlier}
 use Rattle.tso_ops.proofs.NumberFacts.{event_above_zero, load_is_no_store, store_event, load_event}
-use Rattle.order_paths.proofs.RisingNumbers.{Rises, rises_on_path}
+use Rattle.order_paths.proofs.RisingNumbers.{rises_on_path}
 use Rattle.tso_model.specs.Axioms.{place, IsUpTo, IsBefore, IsVisible, IsModelOrder, IsConsistent}
 use Rattle.tso_model.proofs.EdgesForward.{SeesSource, nothing, greatest}
 use Rattle.tso_model.proofs.Places.{nothing_before_zero, before_or_up_to, before_not_up_to, up_to_from_before}
@@ -22,7 +22,7 @@ use Rattle.value_evidence.specs.Evidence.{IsUpToBy, ValueStepHolds, EndHolds, Al
 use Rattle.value_evidence.proofs.SwapSources.{strict, read_by, one_read, up_to_read, taken_once}
 
 -- what a list of one contains is that one
-contained_one : (x y : ValueStep) → Contains (x ∷ []) y → x ≡ y
+pub contained_one : {X : Type 0} → (x y : X) → Contains (x ∷ []) y → x ≡ y
 contained_one x y (zero, below, is) = is
 contained_one x y (suc k, below, is) = absurd (omega arith)
 
@@ -32,11 +32,11 @@ take-zero [] = refl
 take-zero (x ∷ rest) = refl
 
 -- an empty list contains nothing
-none_contained : (x : ValueStep) → Contains [] x → ⊥
+pub none_contained : {X : Type 0} → (x : X) → Contains [] x → ⊥
 none_contained x among = omega (arith, among.1)
 
 -- In the order all holds that these steps say.
-record Keeps (t : TraceValue) (order : List ℕ) (steps : List ValueStep) : Type 0 where
+pub record Keeps (t : TraceValue) (order : List ℕ) (steps : List ValueStep) : Type 0 where
   pub pairs : (step : ValueStep) (u v : ℕ) → Contains steps step → SaysBefore step u v → IsBefore order u v
   pub sources : (l s : ℕ) → Contains steps (Read l s) → SeesSource t order l s
 
@@ -95,7 +95,7 @@ module _ (t : TraceValue) (order : List ℕ) (axioms : IsModelOrder t order) whe
     read_left l r load sees (taken m swap_l swap_m address other said) = taken_once t order axioms l m r swap_l swap_m address other (keeps.sources m r said) sees
 
     -- so it is a number that the load can have read by the steps
-    read_can : (l : ℕ) → IsLoad t l → (r : ℕ) × CanRead t steps l r × SeesSource t order l r
+    pub read_can : (l : ℕ) → IsLoad t l → (r : ℕ) × CanRead t steps l r × SeesSource t order l r
     read_can l load = let read = read_by t order axioms l load in (read.0, (read.1, read_left l read.0 load read.2), read.2)
 
     -- what is a store, or comes before it, stands before what the store stands before
@@ -205,23 +205,28 @@ module _ (t : TraceValue) (order : List ℕ) (axioms : IsModelOrder t order) whe
             let read = read_can l is_read.0 in
             subst (SeesSource t order l) (is_read.1 read.0 read.1) read.2
 
-    -- the order keeps one step more
-    keeps_more : (step : ValueStep) → ValueStepHolds t steps step → Keeps t order (steps ++ step ∷ [])
-    keeps_more step holds = record {
+    -- The order keeps one step more, if what the step says stands so in the order.
+    pub keeps_said : (step : ValueStep) → ((u v : ℕ) → SaysBefore step u v → IsBefore order u v) → ((l s : ℕ) → step ≡ Read l s → SeesSource t order l s) →
+        Keeps t order (steps ++ step ∷ [])
+    keeps_said step before source = record {
       pairs = λ other u v among said. pairs_of other u v said (Contains-append_cases steps (step ∷ []) other among);
       sources = λ l s among. sources_of l s (Contains-append_cases steps (step ∷ []) (Read l s) among);
     }
       where
         pairs_of : (other : ValueStep) (u v : ℕ) → SaysBefore other u v → Contains steps other ⊎ Contains (step ∷ []) other → IsBefore order u v
         pairs_of other u v said (inl among) = keeps.pairs other u v among said
-        pairs_of other u v said (inr last) = said_before step holds u v (subst (λ x. SaysBefore x u v) (sym (contained_one step other last)) said)
+        pairs_of other u v said (inr last) = before u v (subst (λ x. SaysBefore x u v) (sym (contained_one step other last)) said)
 
         sources_of : (l s : ℕ) → Contains steps (Read l s) ⊎ Contains (step ∷ []) (Read l s) → SeesSource t order l s
         sources_of l s (inl among) = keeps.sources l s among
-        sources_of l s (inr last) = said_source step holds l s (contained_one step (Read l s) last)
+        sources_of l s (inr last) = source l s (contained_one step (Read l s) last)
+
+    -- the order keeps one step more that holds
+    pub keeps_more : (step : ValueStep) → ValueStepHolds t steps step → Keeps t order (steps ++ step ∷ [])
+    keeps_more step holds = keeps_said step (said_before step holds) (said_source step holds)
 
     -- the end leaves no such order
-    no_end : (end : ValueEnd) → EndHolds t steps end → ⊥
+    pub no_end : (end : ValueEnd) → EndHolds t steps end → ⊥
     no_end (NoSource l) holds = let read = read_can l holds.0 in holds.1 read.0 read.1
     no_end (Cycle u) holds = let before = path_before u u holds in omega arith
 
@@ -234,7 +239,7 @@ module _ (t : TraceValue) (order : List ℕ) (axioms : IsModelOrder t order) whe
       (keeps_more (take k steps) (keeps_all steps holds none k (omega arith)) step (holds k step (slice_get-get_or steps k (Read 0 0) within)))
 
   -- no step says nothing
-  keeps_none : Keeps t order []
+  pub keeps_none : Keeps t order []
   keeps_none = record { pairs = λ step u v among said. absurd (none_contained step among); sources = λ l s among. absurd (none_contained (Read l s) among) }
 
 -- evidence that holds leaves no order

@@ -1,10 +1,10 @@
 -- In an order of the model a load sees its source as the greatest store, and no two swaps of an address have one source.
-use Rattle.std.proofs.Common.{◌≡◌, ◌≢◌, ◌⊎◌, ℕ, suc, List, inl, inr, refl, sym, ◌∙◌, subst, arith}
+use Rattle.std.proofs.Common.{◌≡◌, ◌≢◌, ◌⊎◌, ℕ, suc, List, inl, inr, refl, sym, ◌∙◌, arith}
 use Rattle.tso_ops.specs.Values.{TraceValue}
 use Rattle.tso_ops.specs.Events.{IsEvent, IsLoad, IsStore, IsSwapLoad, HasSource, SameAddress, Earlier}
-use Rattle.tso_ops.proofs.NumberFacts.{event_above_zero, event_unique, load_is_no_store, store_event, load_event, store_source}
+use Rattle.tso_ops.proofs.NumberFacts.{event_above_zero, event_unique, store_event, store_source}
 use Rattle.tso_ops.proofs.SwapFacts.{IsSwapLoad-store, IsSwapLoad-earlier}
-use Rattle.tso_model.specs.Axioms.{place, occurrences, IsUpTo, IsBefore, IsVisible, ReadsGreatest, IsModelOrder}
+use Rattle.tso_model.specs.Axioms.{IsUpTo, IsBefore, IsVisible, ReadsGreatest, IsModelOrder}
 use Rattle.tso_model.proofs.EdgesForward.{SeesSource, nothing, greatest}
 use Rattle.tso_model.proofs.Places.{place_same, before_from_up_to, before_not_up_to, up_to_from_before}
 use Rattle.value_evidence.proofs.SwapAddresses.{swap_address}

@@ -1,2 +1,3 @@
 pub mod Candidates
 pub mod Evidence
+pub mod Refutations

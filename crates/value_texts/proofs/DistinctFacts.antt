@@ -1,6 +1,6 @@
 -- Where no two events have one name, each is the first of its name.
-use Rattle.std.proofs.Common.{◌≡◌, ◌⊎◌, inl, inr, ℕ, suc, ◌+◌, ◌-◌, ◌<◌, ◌^◌, Bool, true, false, List, get_or, Some, Result, Ok, Err, refl, ap, ◌∙◌, subst, arith}
-use Rattle.std.specs.Prelude.{nat_lt}
+use Rattle.std.proofs.Common.{◌≡◌, ◌⊎◌, inl, inr, ℕ, suc, ◌+◌, ◌-◌, ◌<◌, ◌^◌, Bool, true, false, List, get_or, Some, Result, Ok, Err, refl, ap, sym, ◌∙◌, subst, arith}
+use Rattle.std.specs.Prelude.{nat_lt, IfErr}
 use Rattle.std.specs.Result.{OnOk}
 use Rattle.std.specs.Str.{bytes_eq}
 use Rattle.std.proofs.lemmas.Bool.Decides.{nat_tests}
@@ -10,22 +10,24 @@ use Rattle.value_evidence.specs.declared.steps.ValueStep.{ValueStep}
 use Rattle.value_evidence.specs.declared.steps.ValueStep.TheVariants.{Read, In, Out, Over, SwapAfter, SwapBefore}
 use Rattle.value_evidence.specs.declared.steps.ValueEnd.{ValueEnd}
 use Rattle.value_evidence.specs.declared.steps.ValueEnd.TheVariants.{NoSource, Cycle}
+use Rattle.value_evidence.specs.declared.refutations.ValueRefutationLine.{ValueRefutationLine}
+use Rattle.value_evidence.specs.declared.refutations.ValueRefutationLine.TheVariants.{Step, ReadCase, BeforeCase, Else, End}
 use Rattle.value_texts.specs.declared.names.EventName.{EventName}
 use Rattle.value_texts.specs.Names.{event_name_text, name_of_event, IsNumbered, AreNamesDistinct, NamesFit}
-use Rattle.value_texts.specs.Printed.{EvidenceValue, event_token, value_evidence_text, OfEachEvent, OfEndEvent, OfAllEvents}
-use Rattle.value_texts.specs.Spelling.{has_token, event_named, IsNamed, SpellsValueEvidence}
+use Rattle.value_texts.specs.Printed.{LogEvidenceValue, order_of, refutation_of, event_token, evidence_text_of_log, OfEachEvent, OfEndEvent, OfLineEvents, OfAllEvents}
+use Rattle.value_texts.specs.Spelling.{has_token, event_named, IsNamed, SpellsLogEvidence}
 use Rattle.value_texts.specs.Internal.Names.{IsNameable}
 use Rattle.value_texts.proofs.NameFacts.{one_name}
 use Rattle.value_texts.proofs.PositionFacts.{at_found}
 
 -- ---- what holds of each event
 
+source_from : (P Q : ℕ → Type 0) → ((n : ℕ) → P n → Q n) → (source : ℕ) → (source ≡ 0) ⊎ P source → (source ≡ 0) ⊎ Q source
+source_from P Q from source (inl none) = inl none
+source_from P Q from source (inr event) = inr (from source event)
+
 each_from : (P Q : ℕ → Type 0) → ((n : ℕ) → P n → Q n) → (s : ValueStep) → OfEachEvent P s → OfEachEvent Q s
-each_from P Q from (Read load source) holds = (from load holds.0, of_source holds.1)
-  where
-    of_source : (source ≡ 0) ⊎ P source → (source ≡ 0) ⊎ Q source
-    of_source (inl none) = inl none
-    of_source (inr event) = inr (from source event)
+each_from P Q from (Read load source) holds = (from load holds.0, source_from P Q from source holds.1)
 each_from P Q from (In u load) holds = (from u holds.0, from load holds.1)
 each_from P Q from (Out load to) holds = (from load holds.0, from to holds.1)
 each_from P Q from (Over u to load) holds = (from u holds.0, from to holds.1, from load holds.2)
@@ -36,8 +38,16 @@ end_from : (P Q : ℕ → Type 0) → ((n : ℕ) → P n → Q n) → (e : Value
 end_from P Q from (NoSource load) holds = from load holds
 end_from P Q from (Cycle n) holds = from n holds
 
-pub all_from : (P Q : ℕ → Type 0) → ((n : ℕ) → P n → Q n) → (e : EvidenceValue) → OfAllEvents P e → OfAllEvents Q e
-all_from P Q from e holds = (λ k d low. each_from P Q from (get_or e.steps k d) (holds.0 k d low), end_from P Q from e.end holds.1)
+line_from : (P Q : ℕ → Type 0) → ((n : ℕ) → P n → Q n) → (l : ValueRefutationLine) → OfLineEvents P l → OfLineEvents Q l
+line_from P Q from (Step s) holds = each_from P Q from s holds
+line_from P Q from (ReadCase load source) holds = (from load holds.0, source_from P Q from source holds.1)
+line_from P Q from (BeforeCase first second) holds = (from first holds.0, from second holds.1)
+line_from P Q from Else holds = tt
+line_from P Q from (End e) holds = end_from P Q from e holds
+
+pub all_from : (P Q : ℕ → Type 0) → ((n : ℕ) → P n → Q n) → (e : LogEvidenceValue) → OfAllEvents P e → OfAllEvents Q e
+all_from P Q from (order_of numbers) holds = λ k d low. from (get_or numbers k d) (holds k d low)
+all_from P Q from (refutation_of lines) holds = λ k d low. line_from P Q from (get_or lines k d) (holds k d low)
 
 -- ---- names
 
@@ -69,16 +79,23 @@ module _ (names : List EventName) (distinct : AreNamesDistinct names) where
       let whole : 1 + (n - 1) ≡ n = (let above = named.0.0 in omega (arith, above)) in
       at_found (has_token token) 1 (n - 1) names d (record { inside = (let range = named.0 in omega (arith, range.0, range.1)); passes = rw (here, text) refl; first = first }) ∙ ap Some whole
 
-  pub spelled_once : (e : EvidenceValue) → OfAllEvents (IsNameable names) e → SpellsValueEvidence names (value_evidence_text names e) e
+  pub spelled_once : (e : LogEvidenceValue) → OfAllEvents (IsNameable names) e → SpellsLogEvidence names (evidence_text_of_log names e) e
   spelled_once e named = (all_from (IsNameable names) (IsNamed names) named_once e named, refl)
 
-pub printed_spells : (names : List EventName) (e : EvidenceValue) → AreNamesDistinct names → NamesFit names → OfAllEvents (IsNumbered names) e → SpellsValueEvidence names (value_evidence_text names e) e
+pub printed_spells : (names : List EventName) (e : LogEvidenceValue) → AreNamesDistinct names → NamesFit names → OfAllEvents (IsNumbered names) e → SpellsLogEvidence names (evidence_text_of_log names e) e
 printed_spells names e distinct fit numbered =
     spelled_once names distinct e
     (all_from (IsNumbered names) (IsNameable names) (λ n range. (range, fit (n - 1) (record { line = 0; is_swap_store = false }) (omega (arith, range.0, range.1)))) e numbered)
 
 -- ---- as the printer gives them
 
+pub spelled_as : (names : List EventName) (d e : LogEvidenceValue) → e ≡ d → OfAllEvents (IsNameable names) d → AreNamesDistinct names → SpellsLogEvidence names (evidence_text_of_log names e) e
+spelled_as names d e is named distinct = spelled_once names distinct e (subst (OfAllEvents (IsNameable names)) (sym is) named)
+
 pub ok_from : {E : Type 0} {A B : Type 0} (r : Result (Unit {0}) E) → (A → B) → OnOk r A → OnOk r B
 ok_from (Ok u) from holds = from holds
 ok_from (Err why) from holds = tt
+
+pub err_from : {A E : Type 0} {P Q : E → Type 0} (r : Result A E) → ((why : E) → P why → Q why) → IfErr r P → IfErr r Q
+err_from (Ok a) from holds = tt
+err_from (Err why) from holds = from why holds

@@ -1,28 +1,36 @@
 -- What a line says is written in one way, and that is read back; and a line that says nothing has a fault.
-use Rattle.std.proofs.Common.{◌≡◌, ◌⊎◌, inl, inr, ⊎_elim, ℕ, zero, suc, ◌-◌, ◌^◌, Bool, true, false, List, [], ◌∷◌, ◌++◌, get_or, Option, Some, None, Result, Ok, Err, refl, ap, sym, ◌∙◌, subst, arith}
-use Rattle.std.specs.Prelude.{codes, nat_lt}
+use Rattle.std.proofs.Common.{◌≡◌, ◌⊎◌, inl, inr, ⊎_elim, ℕ, zero, suc, ◌-◌, ◌^◌, Bool, true, false, List, [], ◌∷◌, ◌++◌, get_or, map, eqb, Option, Some, None, Result, Ok, Err, refl, ap, sym, ◌∙◌, subst, arith}
+use Rattle.std.specs.Prelude.{codes, nat_lt, All}
 use Rattle.std.specs.Fmt.{decimal}
 use Rattle.std.specs.List.{find, list_all}
 use Rattle.std.specs.Char.{is_ascii_digit}
 use Rattle.std.specs.Str.{bytes_eq}
 use Rattle.std.proofs.lemmas.Bool.{false≢true}
+use Rattle.std.proofs.lemmas.Bool.Decides.{nat_tests}
 use Rattle.std.proofs.lemmas.List.{append-nil}
+use Rattle.std.proofs.lemmas.List.Elements.{All-nil, All-cons}
 use Rattle.std.proofs.lemmas.Slice.Eq.{bytes_eq-Decides}
+use Rattle.line_text.specs.Readings.{Said, element, whole}
 use Rattle.line_text.specs.Results.{◌>>=◌}
 use Rattle.line_text.proofs.NumberFacts.{and_parts}
 use Rattle.line_text.proofs.SplitFacts.{has_byte}
-use Rattle.tso_cert.proofs.SayingFacts.{cases, cond_true, cond_false, decimal_differs}
+use Rattle.tso_cert.proofs.SayingFacts.{cases, cond_true, cond_false, all_first, all_after, decimal_differs}
+use Rattle.value_evidence.specs.declared.steps.ValueStep.{ValueStep}
 use Rattle.value_evidence.specs.declared.steps.ValueStep.TheVariants.{Read, In, Out, Over, SwapAfter, SwapBefore}
 use Rattle.value_evidence.specs.declared.steps.ValueEnd.TheVariants.{NoSource, Cycle}
-use Rattle.value_texts.specs.declared.lines.Line.{Line}
-use Rattle.value_texts.specs.declared.lines.Line.TheVariants.{Step, End}
+use Rattle.value_evidence.specs.declared.refutations.ValueRefutationLine.{ValueRefutationLine}
+use Rattle.value_evidence.specs.declared.refutations.ValueRefutationLine.TheVariants.{Step, ReadCase, BeforeCase, Else, End}
 use Rattle.value_texts.specs.declared.names.EventName.{EventName}
+use Rattle.value_texts.specs.declared.refusals.ValueTextRefusal.{ValueTextRefusal}
+use Rattle.value_texts.specs.declared.refusals.ValueTextRefusal.TheVariants.{BadLine}
 use Rattle.value_texts.specs.declared.words.Word.{Word}
 use Rattle.value_texts.specs.declared.words.Word.TheVariants as words
+use Rattle.value_texts.specs.declared.words.StepWord.{StepWord}
+use Rattle.value_texts.specs.declared.words.StepWord.TheVariants as steps
 use Rattle.value_texts.specs.Names.{event_name_text, name_of_event}
-use Rattle.value_texts.specs.Printed.{event_token, source_token, value_step_tokens, value_end_tokens, OfEachEvent, OfEndEvent}
+use Rattle.value_texts.specs.Printed.{LogEvidenceValue, order_of, event_token, source_token, value_step_tokens, refutation_line_tokens, log_order_tokens, OfEachEvent, OfLineEvents}
 use Rattle.value_texts.specs.Spelling.{has_token, event_named, IsNamed}
-use Rattle.value_texts.specs.Internal.LineValues.{word_token, all_words, word_of, or_no_event, event_said, source_said, one_said, pair_said, three_said, read_said, word_said, known_said, value_line_said}
+use Rattle.value_texts.specs.Internal.LineValues.{word_token, all_words, word_of, or_no_event, event_said, source_said, one_said, pair_said, three_said, read_said, events_said, step_said, else_said, word_said, known_said, refuting_said, order_said, evidence_line_said}
 use Rattle.value_texts.proofs.NameFacts.{has_prime}
 use Rattle.value_texts.proofs.PositionFacts.{found_at}
 
@@ -36,6 +44,10 @@ module _ {A B E : Type 0} where
   said_last : (r : Result A E) (f : A → B) (b : B) → (r >>= λ a. Ok (f a)) ≡ Ok b → (a : A) × (r ≡ Ok a) × (f a ≡ b)
   said_last (Ok a) f b e = (a, refl, cc)
   said_last (Err why) f b e = absurd cc
+
+-- the numbers of the events that tokens name, after those of the tokens that were read
+abbrev pub events_after : List ℕ → Result (List ℕ) ValueTextRefusal → Result (List ℕ) ValueTextRefusal
+events_after numbers rest = rest >>= λ more. Ok (numbers ++ more)
 
 -- ---- words
 
@@ -55,12 +67,15 @@ word_is token w is = word_found all_words token w is
 
 pub word_read : (w : Word) → word_of (word_token w) ≡ Some w
 unfolding word_of
-word_read words.Read = refl
-word_read words.In = refl
-word_read words.Out = refl
-word_read words.Over = refl
-word_read words.After = refl
-word_read words.Before = refl
+word_read (words.Step steps.Read) = refl
+word_read (words.Step steps.In) = refl
+word_read (words.Step steps.Out) = refl
+word_read (words.Step steps.Over) = refl
+word_read (words.Step steps.After) = refl
+word_read (words.Step steps.Before) = refl
+word_read words.CaseRead = refl
+word_read words.CaseBefore = refl
+word_read words.Else = refl
 word_read words.NoSource = refl
 word_read words.Cycle = refl
 
@@ -119,20 +134,34 @@ module _ (names : List EventName) where
   source_read (suc n) (inl none) = absurd (omega (arith, none))
   source_read (suc n) (inr named) = rw (name_differs (name_of_event names (suc n)) (codes "init") refl refl) (event_read (suc n) named)
 
+  events_are : (tokens : List (List ℕ)) (ns : List ℕ) → events_said names tokens ≡ Ok ns → (tokens ≡ map (event_token names) ns) × All (IsNamed names) ns
+  events_are [] ns e = let none : [] ≡ ns = cc in rw (← none) (refl, All-nil (IsNamed names))
+  events_are (token ∷ tokens) ns e =
+      let first = said_ok (event_said names token) _ ns e in
+      let others = said_last (events_said names tokens) _ ns first.2 in
+      let one = event_is token first.0 first.1 in
+      let more = events_are tokens others.0 others.1 in
+      rw (← others.2) (ap (λ t. t ∷ tokens) one.says ∙ ap (λ ts. event_token names first.0 ∷ ts) more.0, All-cons (IsNamed names) first.0 others.0 one.named more.1)
+
+  events_read : (ns : List ℕ) → All (IsNamed names) ns → events_said names (map (event_token names) ns) ≡ Ok ns
+  events_read [] named = refl
+  events_read (n ∷ ns) named = rw (event_read n (all_first (IsNamed names) n ns named), events_read ns (all_after (IsNamed names) n ns named)) refl
+
 -- ---- what a line says is written in one way
 
--- the tokens of what a line says, whose events are named
-abbrev pub said_tokens : List EventName → Line → List (List ℕ)
-said_tokens names (Step s) = value_step_tokens names s
-said_tokens names (End e) = value_end_tokens names e
+-- the line of these tokens is that of what it says, whose events are named; an order is on line 1
+pub data Told (names : List EventName) (line : ℕ) (tokens : List (List ℕ)) : Said ValueRefutationLine LogEvidenceValue → Type 0 where
+  of_refutation : (l : ValueRefutationLine) → tokens ≡ refutation_line_tokens names l → OfLineEvents (IsNamed names) l → Told names line tokens (element l)
+  of_order : (ns : List ℕ) → line ≡ 1 → tokens ≡ log_order_tokens names ns → All (IsNamed names) ns → Told names line tokens (whole (order_of ns))
 
-abbrev pub SaidNamed : List EventName → Line → Type 0
-SaidNamed names (Step s) = OfEachEvent (IsNamed names) s
-SaidNamed names (End e) = OfEndEvent (IsNamed names) e
+-- the same of a line of a refutation, and of a step
+record LineTold (names : List EventName) (tokens : List (List ℕ)) (l : ValueRefutationLine) : Type 0 where
+  says : tokens ≡ refutation_line_tokens names l
+  named : OfLineEvents (IsNamed names) l
 
-pub record Told (names : List EventName) (tokens : List (List ℕ)) (l : Line) : Type 0 where
-  pub says : tokens ≡ said_tokens names l
-  pub named : SaidNamed names l
+record StepTold (names : List EventName) (tokens : List (List ℕ)) (s : ValueStep) : Type 0 where
+  says : tokens ≡ value_step_tokens names s
+  named : OfEachEvent (IsNamed names) s
 
 module _ (names : List EventName) where
   one_is : (tokens : List (List ℕ)) (n : ℕ) → one_said names tokens ≡ Ok n → (tokens ≡ event_token names n ∷ []) × IsNamed names n
@@ -184,59 +213,109 @@ module _ (names : List EventName) where
       (ap (λ t. t ∷ b ∷ c ∷ []) l.says ∙ ap (λ t. event_token names first.0 ∷ t ∷ c ∷ []) m.says ∙ ap (λ t. event_token names first.0 ∷ event_token names second.0 ∷ t ∷ []) n.says, (l.named, m.named, n.named))
   three_is (a ∷ b ∷ c ∷ d ∷ tokens) p e = absurd cc
 
-  word_told : (w : Word) (tokens : List (List ℕ)) (l : Line) → word_said names w tokens ≡ Ok l → Told names (word_token w ∷ tokens) l
+  step_told : (w : StepWord) (tokens : List (List ℕ)) (s : ValueStep) → step_said names w tokens ≡ Ok s → StepTold names (word_token (words.Step w) ∷ tokens) s
+  unfolding step_said
+  step_told steps.Read tokens s e =
+      let p = said_last (read_said names tokens) _ s e in
+      let t = read_is tokens p.0 p.1 in
+      subst (StepTold names (codes "read" ∷ tokens)) p.2 (record { says = ap (λ ts. codes "read" ∷ ts) t.0; named = t.1 })
+  step_told steps.In tokens s e =
+      let p = said_last (pair_said names tokens) _ s e in
+      let t = pair_is tokens p.0 p.1 in
+      subst (StepTold names (codes "in" ∷ tokens)) p.2 (record { says = ap (λ ts. codes "in" ∷ ts) t.0; named = t.1 })
+  step_told steps.Out tokens s e =
+      let p = said_last (pair_said names tokens) _ s e in
+      let t = pair_is tokens p.0 p.1 in
+      subst (StepTold names (codes "out" ∷ tokens)) p.2 (record { says = ap (λ ts. codes "out" ∷ ts) t.0; named = t.1 })
+  step_told steps.Over tokens s e =
+      let p = said_last (three_said names tokens) _ s e in
+      let t = three_is tokens p.0 p.1 in
+      subst (StepTold names (codes "over" ∷ tokens)) p.2 (record { says = ap (λ ts. codes "over" ∷ ts) t.0; named = t.1 })
+  step_told steps.After tokens s e =
+      let p = said_last (pair_said names tokens) _ s e in
+      let t = pair_is tokens p.0 p.1 in
+      subst (StepTold names (codes "after" ∷ tokens)) p.2 (record { says = ap (λ ts. codes "after" ∷ ts) t.0; named = t.1 })
+  step_told steps.Before tokens s e =
+      let p = said_last (pair_said names tokens) _ s e in
+      let t = pair_is tokens p.0 p.1 in
+      subst (StepTold names (codes "before" ∷ tokens)) p.2 (record { says = ap (λ ts. codes "before" ∷ ts) t.0; named = t.1 })
+
+  else_told : (tokens : List (List ℕ)) (l : ValueRefutationLine) → else_said tokens ≡ Ok l → LineTold names (codes "else" ∷ tokens) l
+  else_told [] l e = let same : Else ≡ l = cc in subst (LineTold names (codes "else" ∷ [])) same (record { says = refl; named = tt })
+  else_told (token ∷ tokens) l e = absurd cc
+
+  word_told : (w : Word) (tokens : List (List ℕ)) (l : ValueRefutationLine) → word_said names w tokens ≡ Ok l → LineTold names (word_token w ∷ tokens) l
   unfolding word_said
-  word_told words.Read tokens l e =
+  word_told (words.Step w) tokens l e =
+      let s = said_last (step_said names w tokens) _ l e in
+      let t = step_told w tokens s.0 s.1 in
+      subst (LineTold names (word_token (words.Step w) ∷ tokens)) s.2 (record { says = t.says; named = t.named })
+  word_told words.CaseRead tokens l e =
       let p = said_last (read_said names tokens) _ l e in
       let t = read_is tokens p.0 p.1 in
-      subst (Told names (codes "read" ∷ tokens)) p.2 (record { says = ap (λ ts. codes "read" ∷ ts) t.0; named = t.1 })
-  word_told words.In tokens l e =
+      subst (LineTold names (codes "case-read" ∷ tokens)) p.2 (record { says = ap (λ ts. codes "case-read" ∷ ts) t.0; named = t.1 })
+  word_told words.CaseBefore tokens l e =
       let p = said_last (pair_said names tokens) _ l e in
       let t = pair_is tokens p.0 p.1 in
-      subst (Told names (codes "in" ∷ tokens)) p.2 (record { says = ap (λ ts. codes "in" ∷ ts) t.0; named = t.1 })
-  word_told words.Out tokens l e =
-      let p = said_last (pair_said names tokens) _ l e in
-      let t = pair_is tokens p.0 p.1 in
-      subst (Told names (codes "out" ∷ tokens)) p.2 (record { says = ap (λ ts. codes "out" ∷ ts) t.0; named = t.1 })
-  word_told words.Over tokens l e =
-      let p = said_last (three_said names tokens) _ l e in
-      let t = three_is tokens p.0 p.1 in
-      subst (Told names (codes "over" ∷ tokens)) p.2 (record { says = ap (λ ts. codes "over" ∷ ts) t.0; named = t.1 })
-  word_told words.After tokens l e =
-      let p = said_last (pair_said names tokens) _ l e in
-      let t = pair_is tokens p.0 p.1 in
-      subst (Told names (codes "after" ∷ tokens)) p.2 (record { says = ap (λ ts. codes "after" ∷ ts) t.0; named = t.1 })
-  word_told words.Before tokens l e =
-      let p = said_last (pair_said names tokens) _ l e in
-      let t = pair_is tokens p.0 p.1 in
-      subst (Told names (codes "before" ∷ tokens)) p.2 (record { says = ap (λ ts. codes "before" ∷ ts) t.0; named = t.1 })
+      subst (LineTold names (codes "case-before" ∷ tokens)) p.2 (record { says = ap (λ ts. codes "case-before" ∷ ts) t.0; named = t.1 })
+  word_told words.Else tokens l e = else_told tokens l e
   word_told words.NoSource tokens l e =
-      let n = said_last (one_said names tokens) _ l e in
-      let t = one_is tokens n.0 n.1 in
-      subst (Told names (codes "nosource" ∷ tokens)) n.2 (record { says = ap (λ ts. codes "nosource" ∷ ts) t.0; named = t.1 })
+      let p = said_last (one_said names tokens) _ l e in
+      let t = one_is tokens p.0 p.1 in
+      subst (LineTold names (codes "nosource" ∷ tokens)) p.2 (record { says = ap (λ ts. codes "nosource" ∷ ts) t.0; named = t.1 })
   word_told words.Cycle tokens l e =
-      let n = said_last (one_said names tokens) _ l e in
-      let t = one_is tokens n.0 n.1 in
-      subst (Told names (codes "cycle" ∷ tokens)) n.2 (record { says = ap (λ ts. codes "cycle" ∷ ts) t.0; named = t.1 })
+      let p = said_last (one_said names tokens) _ l e in
+      let t = one_is tokens p.0 p.1 in
+      subst (LineTold names (codes "cycle" ∷ tokens)) p.2 (record { says = ap (λ ts. codes "cycle" ∷ ts) t.0; named = t.1 })
 
-  pub told : (tokens : List (List ℕ)) (l : Line) → value_line_said names tokens ≡ Ok l → Told names tokens l
-  unfolding value_line_said
-  told [] l e = absurd cc
-  told (token ∷ tokens) l e = by (word_of token) refl e
+  refuting_told : (token : List ℕ) (tokens : List (List ℕ)) (l : ValueRefutationLine) → refuting_said names token tokens ≡ Ok l → LineTold names (token ∷ tokens) l
+  refuting_told token tokens l e = by (word_of token) refl e
     where
-      by : (o : Option Word) → word_of token ≡ o → known_said names o tokens ≡ Ok l → Told names (token ∷ tokens) l
+      by : (o : Option Word) → word_of token ≡ o → known_said names o tokens ≡ Ok l → LineTold names (token ∷ tokens) l
       by None is said = absurd cc
       by (Some w) is said = let t = word_told w tokens l said in record { says = ap (λ first. first ∷ tokens) (word_is token w is) ∙ t.says; named = t.named }
 
+  order_told : (line : ℕ) (token : List ℕ) (tokens : List (List ℕ)) (ns : List ℕ) → bytes_eq token (codes "order") ≡ true → order_said names line tokens ≡ Ok ns → Told names line (token ∷ tokens) (whole (order_of ns))
+  unfolding order_said
+  order_told line token tokens ns is e =
+      ⊎_elim
+      (λ (first : eqb line 1 ≡ true).
+      let all = events_are names tokens ns (cond_true (eqb line 1) (events_said names tokens) (Err BadLine) (Ok ns) first e) in
+      let at : line ≡ 1 = grind (arith, nat_tests) in
+      of_order ns at (ap (λ t. t ∷ tokens) ((bytes_eq-Decides token (codes "order")).0 is) ∙ ap (λ ts. codes "order" ∷ ts) all.0) all.1)
+      (λ (later : eqb line 1 ≡ false). absurd (let s = cond_false (eqb line 1) (events_said names tokens) (Err BadLine) (Ok ns) later e in cc))
+      (cases (eqb line 1))
+
+  pub told : (line : ℕ) (tokens : List (List ℕ)) (said : Said ValueRefutationLine LogEvidenceValue) → evidence_line_said names line tokens ≡ Ok said → Told names line tokens said
+  unfolding evidence_line_said
+  told line [] said e = absurd cc
+  told line (token ∷ tokens) said e =
+      ⊎_elim
+      (λ (order : bytes_eq token (codes "order") ≡ true).
+      let ns = said_last (order_said names line tokens) _ said (cond_true (bytes_eq token (codes "order")) _ _ (Ok said) order e) in
+      subst (Told names line (token ∷ tokens)) ns.2 (order_told line token tokens ns.0 order ns.1))
+      (λ (other : bytes_eq token (codes "order") ≡ false).
+      let l = said_last (refuting_said names token tokens) _ said (cond_false (bytes_eq token (codes "order")) _ _ (Ok said) other e) in
+      let t = refuting_told token tokens l.0 l.1 in
+      subst (Told names line (token ∷ tokens)) l.2 (of_refutation l.0 t.says t.named))
+      (cases (bytes_eq token (codes "order")))
+
   -- ---- and is read back
 
-  pub said-tokens : (l : Line) → SaidNamed names l → value_line_said names (said_tokens names l) ≡ Ok l
-  unfolding value_line_said word_of word_said one_said pair_said three_said read_said
-  said-tokens (Step (Read load source)) named = rw (event_read names load named.0, source_read names source named.1) refl
-  said-tokens (Step (In from load)) named = rw (event_read names from named.0, event_read names load named.1) refl
-  said-tokens (Step (Out load to)) named = rw (event_read names load named.0, event_read names to named.1) refl
-  said-tokens (Step (Over from to load)) named = rw (event_read names from named.0, event_read names to named.1, event_read names load named.2) refl
-  said-tokens (Step (SwapAfter swap to)) named = rw (event_read names swap named.0, event_read names to named.1) refl
-  said-tokens (Step (SwapBefore from swap)) named = rw (event_read names from named.0, event_read names swap named.1) refl
-  said-tokens (End (NoSource load)) named = rw (event_read names load named) refl
-  said-tokens (End (Cycle n)) named = rw (event_read names n named) refl
+  pub line_read : (line : ℕ) (l : ValueRefutationLine) → OfLineEvents (IsNamed names) l → evidence_line_said names line (refutation_line_tokens names l) ≡ Ok (element l)
+  unfolding evidence_line_said word_of word_said step_said one_said pair_said three_said read_said
+  line_read line (Step (Read load source)) named = rw (event_read names load named.0, source_read names source named.1) refl
+  line_read line (Step (In from load)) named = rw (event_read names from named.0, event_read names load named.1) refl
+  line_read line (Step (Out load to)) named = rw (event_read names load named.0, event_read names to named.1) refl
+  line_read line (Step (Over from to load)) named = rw (event_read names from named.0, event_read names to named.1, event_read names load named.2) refl
+  line_read line (Step (SwapAfter swap to)) named = rw (event_read names swap named.0, event_read names to named.1) refl
+  line_read line (Step (SwapBefore from swap)) named = rw (event_read names from named.0, event_read names swap named.1) refl
+  line_read line (ReadCase load source) named = rw (event_read names load named.0, source_read names source named.1) refl
+  line_read line (BeforeCase first second) named = rw (event_read names first named.0, event_read names second named.1) refl
+  line_read line Else named = refl
+  line_read line (End (NoSource load)) named = rw (event_read names load named) refl
+  line_read line (End (Cycle n)) named = rw (event_read names n named) refl
+
+  pub order_read : (ns : List ℕ) → All (IsNamed names) ns → evidence_line_said names 1 (log_order_tokens names ns) ≡ Ok (whole (order_of ns))
+  unfolding evidence_line_said order_said
+  order_read ns named = rw (events_read names ns named) refl

@@ -1,18 +1,18 @@
--- Printed lines are cut where they end, and at the spaces between their tokens; and the lines of one more step.
-use Rattle.std.proofs.Common.{◌≡◌, ℕ, zero, suc, Bool, true, false, List, ◌++◌, eqb, refl, ◌∙◌}
+-- Printed lines are cut where they end, and at the spaces between their tokens.
+use Rattle.std.proofs.Common.{◌≡◌, ℕ, zero, suc, Bool, true, false, List, [], ◌∷◌, ◌++◌, map, eqb, refl, ◌∙◌}
 use Rattle.std.specs.Prelude.{codes}
 use Rattle.std.specs.Fmt.{decimal}
 use Rattle.std.proofs.lemmas.List.{append-nil}
 use Rattle.std.proofs.lemmas.List.Folds.{list_any-append}
-use Rattle.line_text.proofs.SplitFacts.{has_byte, IsBreak, word_without, number_without, IsCut, cut_without}
+use Rattle.line_text.proofs.SplitFacts.{has_byte, has_byte_in, IsBreak, word_without, number_without, IsCut, cut_without}
+use Rattle.value_evidence.specs.declared.steps.ValueStep.{ValueStep}
 use Rattle.value_evidence.specs.declared.steps.ValueStep.TheVariants.{Read, In, Out, Over, SwapAfter, SwapBefore}
 use Rattle.value_evidence.specs.declared.steps.ValueEnd.TheVariants.{NoSource, Cycle}
-use Rattle.value_texts.specs.declared.lines.Line.{Line}
-use Rattle.value_texts.specs.declared.lines.Line.TheVariants.{Step, End}
+use Rattle.value_evidence.specs.declared.refutations.ValueRefutationLine.{ValueRefutationLine}
+use Rattle.value_evidence.specs.declared.refutations.ValueRefutationLine.TheVariants.{Step, ReadCase, BeforeCase, Else, End}
 use Rattle.value_texts.specs.declared.names.EventName.{EventName}
 use Rattle.value_texts.specs.Names.{event_name_text, name_of_event}
-use Rattle.value_texts.specs.Printed.{event_token, source_token}
-use Rattle.value_texts.proofs.LineFacts.{said_tokens}
+use Rattle.value_texts.specs.Printed.{event_token, source_token, value_step_tokens, refutation_line_tokens, log_order_tokens}
 
 -- ---- the bytes of tokens
 
@@ -34,15 +34,41 @@ module _ (names : List EventName) (c : ℕ) (is : IsBreak c) where
   source_without zero = word_without c (codes "init") is refl refl
   source_without (suc n) = event_without (suc n)
 
+  events_without : (ns : List ℕ) → has_byte_in c (map (event_token names) ns) ≡ false
+  events_without [] = refl
+  events_without (n ∷ ns) = rw (event_without n) (events_without ns)
+
 -- ---- printed lines
 
-pub said_cut : (names : List EventName) (l : Line) → IsCut (said_tokens names l)
-said_cut names (Step (Read load source)) = cut_without _ _ (λ c is. rw (word_without c (codes "read") is refl refl, event_without names c is load, source_without names c is source) refl)
-said_cut names (Step (In from load)) = cut_without _ _ (λ c is. rw (word_without c (codes "in") is refl refl, event_without names c is from, event_without names c is load) refl)
-said_cut names (Step (Out load to)) = cut_without _ _ (λ c is. rw (word_without c (codes "out") is refl refl, event_without names c is load, event_without names c is to) refl)
-said_cut names (Step (Over from to load)) =
-    cut_without _ _ (λ c is. rw (word_without c (codes "over") is refl refl, event_without names c is from, event_without names c is to, event_without names c is load) refl)
-said_cut names (Step (SwapAfter swap to)) = cut_without _ _ (λ c is. rw (word_without c (codes "after") is refl refl, event_without names c is swap, event_without names c is to) refl)
-said_cut names (Step (SwapBefore from swap)) = cut_without _ _ (λ c is. rw (word_without c (codes "before") is refl refl, event_without names c is from, event_without names c is swap) refl)
-said_cut names (End (NoSource load)) = cut_without _ _ (λ c is. rw (word_without c (codes "nosource") is refl refl, event_without names c is load) refl)
-said_cut names (End (Cycle n)) = cut_without _ _ (λ c is. rw (word_without c (codes "cycle") is refl refl, event_without names c is n) refl)
+module _ (names : List EventName) where
+  -- a word and an event, two events, three, or a load and a source
+  one_cut : (word : List ℕ) (m : ℕ) → has_byte 10 word ≡ false → has_byte 32 word ≡ false → IsCut (word ∷ event_token names m ∷ [])
+  one_cut word m ten space = cut_without _ _ (λ c is. rw (word_without c word is ten space, event_without names c is m) refl)
+
+  pair_cut : (word : List ℕ) (m n : ℕ) → has_byte 10 word ≡ false → has_byte 32 word ≡ false → IsCut (word ∷ event_token names m ∷ event_token names n ∷ [])
+  pair_cut word m n ten space = cut_without _ _ (λ c is. rw (word_without c word is ten space, event_without names c is m, event_without names c is n) refl)
+
+  three_cut : (word : List ℕ) (l m n : ℕ) → has_byte 10 word ≡ false → has_byte 32 word ≡ false → IsCut (word ∷ event_token names l ∷ event_token names m ∷ event_token names n ∷ [])
+  three_cut word l m n ten space = cut_without _ _ (λ c is. rw (word_without c word is ten space, event_without names c is l, event_without names c is m, event_without names c is n) refl)
+
+  read_cut : (word : List ℕ) (load source : ℕ) → has_byte 10 word ≡ false → has_byte 32 word ≡ false → IsCut (word ∷ event_token names load ∷ source_token names source ∷ [])
+  read_cut word load source ten space = cut_without _ _ (λ c is. rw (word_without c word is ten space, event_without names c is load, source_without names c is source) refl)
+
+  step_cut : (s : ValueStep) → IsCut (value_step_tokens names s)
+  step_cut (Read load source) = read_cut (codes "read") load source refl refl
+  step_cut (In from load) = pair_cut (codes "in") from load refl refl
+  step_cut (Out load to) = pair_cut (codes "out") load to refl refl
+  step_cut (Over from to load) = three_cut (codes "over") from to load refl refl
+  step_cut (SwapAfter swap to) = pair_cut (codes "after") swap to refl refl
+  step_cut (SwapBefore from swap) = pair_cut (codes "before") from swap refl refl
+
+  pub line_cut : (l : ValueRefutationLine) → IsCut (refutation_line_tokens names l)
+  line_cut (Step s) = step_cut s
+  line_cut (ReadCase load source) = read_cut (codes "case-read") load source refl refl
+  line_cut (BeforeCase first second) = pair_cut (codes "case-before") first second refl refl
+  line_cut Else = cut_without _ _ (λ c is. rw (word_without c (codes "else") is refl refl) refl)
+  line_cut (End (NoSource load)) = one_cut (codes "nosource") load refl refl
+  line_cut (End (Cycle n)) = one_cut (codes "cycle") n refl refl
+
+  pub order_cut : (ns : List ℕ) → IsCut (log_order_tokens names ns)
+  order_cut ns = cut_without _ _ (λ c is. rw (word_without c (codes "order") is refl refl) (events_without names c is ns))

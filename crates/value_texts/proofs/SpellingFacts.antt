@@ -1,117 +1,146 @@
 -- Laws on spelling: the outcome of a text is the evidence that it spells or its one refusal, and it is what the reader makes of the text.
-use Rattle.std.proofs.Common.{◌≡◌, ℕ, suc, List, [], ◌∷◌, ◌++◌, length, map, Result, Ok, Err, refl, ap, sym, ◌∙◌, subst, inl, inr, ◌⊎◌, eqb}
+use Rattle.std.proofs.Common.{◌≡◌, ℕ, suc, List, [], ◌∷◌, ◌++◌, length, map, Result, Ok, Err, refl, ap, sym, ◌∙◌, subst, arith, inl, inr, ◌⊎◌, eqb}
 use Rattle.std.specs.Prelude.{All, IfOk, IfErr, MatchResult, ◌≢◌}
-use Rattle.std.specs.List.{flat_map}
-use Rattle.std.proofs.lemmas.List.{map-append}
+use Rattle.std.specs.List.{flat_map, join_with_byte}
+use Rattle.std.proofs.lemmas.List.{append-nil, map-append}
+use Rattle.std.proofs.lemmas.List.Elements.{All-nil}
+use Rattle.std.proofs.lemmas.List.Splits.{join_with_byte-slice_split}
 use Rattle.line_text.specs.Lines.{line_text, parts_of, tokens_of}
-use Rattle.line_text.specs.Readings.{whole, read_parts}
+use Rattle.line_text.specs.Readings.{Said, whole, on_line, read_parts}
 use Rattle.line_text.specs.Refusals.{ArePartsRefused}
-use Rattle.line_text.specs.Results.{◌>>=◌}
 use Rattle.line_text.proofs.CutFacts.{split_parts}
 use Rattle.line_text.proofs.ReadingFacts as texts
-use Rattle.line_text.proofs.ReadingFacts.{TextsOf, IsRightAfter, AreReadBy, ReaderOf}
-use Rattle.line_text.proofs.SplitFacts.{IsCut}
-use Rattle.value_evidence.specs.declared.steps.ValueStep.{ValueStep}
-use Rattle.value_evidence.specs.declared.steps.ValueEvidence.{ValueEvidence}
-use Rattle.value_texts.specs.declared.lines.Line.{Line}
-use Rattle.value_texts.specs.declared.lines.Line.TheVariants.{Step, End}
+use Rattle.line_text.proofs.ReadingFacts.{TextsOf, IsRightAfter, AreReadBy, ReaderOf, none_before, IsFound, IsRefused}
+use Rattle.value_evidence.specs.declared.refutations.ValueRefutationLine.{ValueRefutationLine}
+use Rattle.value_evidence.specs.declared.refutations.LogEvidence.{LogEvidence}
 use Rattle.value_texts.specs.declared.names.EventName.{EventName}
 use Rattle.value_texts.specs.declared.refusals.ValueTextFault.{ValueTextFault}
 use Rattle.value_texts.specs.declared.refusals.ValueTextRefusal.{ValueTextRefusal}
-use Rattle.value_texts.specs.declared.refusals.ValueTextRefusal.TheVariants.{BadLine, NoEvent, NoEnd, AfterEnd, OutOfMemory}
-use Rattle.value_texts.specs.Printed.{EvidenceValue, evidence_value, value_step_tokens, value_end_tokens, value_evidence_text, OfEachEvent, OfAllEvents}
-use Rattle.value_texts.specs.Spelling.{IsNamed, SpellsValueEvidence, IsValueTextRefusal, IsValueLineFault}
-use Rattle.value_texts.specs.Internal.LineValues.{value_line_said}
-use Rattle.value_texts.specs.Internal.ReadTexts.{unended_value_fault, said_after, value_reading, value_answer}
+use Rattle.value_texts.specs.declared.refusals.ValueTextRefusal.TheVariants.{BadLine, NoEvent, AfterEnd, OutOfMemory}
+use Rattle.value_texts.specs.Printed.{LogEvidenceValue, order_of, refutation_of, log_evidence_value, refutation_line_tokens, log_order_tokens, evidence_text_of_log, OfLineEvents, OfAllEvents}
+use Rattle.value_texts.specs.Spelling.{IsNamed, SpellsLogEvidence, IsLogOrder, IsValueTextRefusal, IsValueLineFault}
+use Rattle.value_texts.specs.Internal.LineValues.{evidence_line_said}
+use Rattle.value_texts.specs.Internal.ReadTexts.{evidence_reading, evidence_answer}
 use Rattle.value_texts.proofs.FaultFacts.{refused, fault_said}
-use Rattle.value_texts.proofs.LineFacts.{told, said-tokens}
-use Rattle.value_texts.proofs.PrintedFacts.{said_cut}
+use Rattle.value_texts.proofs.LineFacts.{Told, of_refutation, of_order, told, line_read, order_read}
+use Rattle.value_texts.proofs.PrintedFacts.{line_cut, order_cut}
+use Rattle.line_text.proofs.SplitFacts.{IsCut}
 
 module _ (names : List EventName) where
-  abbrev pub value_texts : TextsOf ValueStep EvidenceValue ValueTextRefusal
-  value_texts = record {
-    Fits = OfEachEvent (IsNamed names);
-    lines = λ steps. map (value_step_tokens names) steps;
+  -- the parts of what stands after lines of a refutation are refused, on the line of this number
+  abbrev AreRefused : ℕ → List (List ℕ) → ValueTextRefusal → Type 0
+  AreRefused line parts why = ArePartsRefused BadLine BadLine (IsValueLineFault names line) parts why
+
+  abbrev pub evidence_texts : TextsOf ValueRefutationLine LogEvidenceValue ValueTextRefusal
+  evidence_texts = record {
+    Fits = OfLineEvents (IsNamed names);
+    lines = λ lines. map (refutation_line_tokens names) lines;
     Is = OfAllEvents (IsNamed names);
-    Ends = OfAllEvents (IsNamed names);
-    text = value_evidence_text names;
-    Refused = λ steps line rest why. ArePartsRefused NoEnd BadLine (IsValueLineFault names) (parts_of rest) why;
+    Ends = λ e. IsLogOrder e × OfAllEvents (IsNamed names) e;
+    text = evidence_text_of_log names;
+    Refused = λ lines line rest why. (rest ≢ []) × AreRefused line (parts_of rest) why;
   }
 
-  -- what a line says, that the line says which is read so
-  pub said_line : (steps : List ValueStep) (tokens : List (List ℕ)) (said : Result Line ValueTextRefusal) → value_line_said names tokens ≡ said → (value_reading names).said steps tokens ≡ (said >>= λ l. Ok (said_after steps l))
-  said_line steps tokens said is = ap (λ r. r >>= λ l. Ok (said_after steps l)) is
-
-  line : (steps : List ValueStep) (tokens : List (List ℕ)) → IsRightAfter value_texts steps tokens ((value_reading names).said steps tokens)
-  unfolding value_evidence_text parts_of
-  line steps tokens = by (value_line_said names tokens) refl
+  line : (lines : List ValueRefutationLine) (tokens : List (List ℕ)) → IsRightAfter evidence_texts lines tokens ((evidence_reading names).said lines tokens)
+  unfolding evidence_text_of_log parts_of
+  line lines tokens = by (evidence_line_said names n tokens) refl
     where
-      cut : (l : Line) → value_line_said names tokens ≡ Ok l → IsCut tokens
-      cut l is = subst IsCut (sym (told names tokens l is).says) (said_cut names l)
+      n : ℕ
+      n = suc (length lines)
 
-      by : (said : Result Line ValueTextRefusal) → value_line_said names tokens ≡ said → IsRightAfter value_texts steps tokens (said >>= λ l. Ok (said_after steps l))
-      by (Err why) is = λ rest line after some parts same. (let p = split_parts (λ b. eqb b 10) after in rw (parts, p.2) (subst (λ ps. IsValueLineFault names ps why) (sym same) (refused names tokens why is)))
-      by (Ok (Step s)) is =
-          let t = told names tokens (Step s) is in
-          (cut (Step s) is, t.named, map-append (value_step_tokens names) steps (s ∷ []) ∙ ap (λ ps. map (value_step_tokens names) steps ++ ps ∷ []) (sym t.says))
-      by (Ok (End e)) is =
-          let t = told names tokens (End e) is in
-          (cut (End e) is, λ named. ((named, t.named), (named, t.named), ap (λ ps. flat_map line_text (map (value_step_tokens names) steps ++ ps ∷ [])) (sym t.says)))
+      -- the text of an order
+      alone : (ns : List ℕ) → tokens ≡ log_order_tokens names ns → n ≡ 1 → flat_map line_text (log_order_tokens names ns ∷ []) ≡ flat_map line_text (map (refutation_line_tokens names) lines ++ tokens ∷ [])
+      alone ns says first =
+          ap (λ ts. flat_map line_text (ts ∷ [])) (sym says) ∙ ap (λ ls. flat_map line_text (map (refutation_line_tokens names) ls ++ tokens ∷ [])) (sym (none_before lines first))
 
-  refused_read : (steps : List ValueStep) (rest : List ℕ) (why : ValueTextRefusal) → ArePartsRefused NoEnd BadLine (IsValueLineFault names) (parts_of rest) why → read_parts (value_reading names) steps (parts_of rest) ≡ Err (suc (length steps), why)
-  unfolding read_parts
-  refused_read steps rest why refused = by (parts_of rest) refused
+      right : (said : Said ValueRefutationLine LogEvidenceValue) → Told names n tokens said → IsRightAfter evidence_texts lines tokens (Ok said)
+      right _ (of_refutation l says named) = (
+        subst IsCut (sym says) (line_cut names l),
+        named,
+        map-append (refutation_line_tokens names) lines (l ∷ []) ∙ ap (λ ts. map (refutation_line_tokens names) lines ++ ts ∷ []) (sym says),
+      )
+      right _ (of_order ns at says named) = (subst IsCut (sym says) (order_cut names ns), λ _. (named, (tt, named), alone ns says at))
+
+      by : (said : Result (Said ValueRefutationLine LogEvidenceValue) ValueTextRefusal) → evidence_line_said names n tokens ≡ said → IsRightAfter evidence_texts lines tokens said
+      by (Err why) is = λ rest line after some parts same. (
+        some,
+        let p = split_parts (λ b. eqb b 10) after in rw (parts, p.2) (subst (λ ts. IsValueLineFault names n ts why) (sym same) (refused names n tokens why is)),
+      )
+      by (Ok said) is = right said (told names n tokens said is)
+
+  unended : (lines : List ValueRefutationLine) (rest : List ℕ) (e : LogEvidenceValue) → All (OfLineEvents (IsNamed names)) lines → (evidence_reading names).unended lines rest ≡ Ok e →
+      OfAllEvents (IsNamed names) e × (evidence_text_of_log names e ≡ flat_map line_text (map (refutation_line_tokens names) lines) ++ rest)
+  unfolding evidence_text_of_log
+  unended lines [] e named is = let same : refutation_of lines ≡ e = cc in rw (← same) (named, sym (append-nil (flat_map line_text (map (refutation_line_tokens names) lines))))
+  unended lines (b ∷ rest) e named is = absurd cc
+
+  missing : (lines : List ValueRefutationLine) (rest : List ℕ) (why : ValueTextRefusal) → parts_of rest ≡ rest ∷ [] → (evidence_reading names).unended lines rest ≡ Err why →
+      (rest ≢ []) × AreRefused (suc (length lines)) (parts_of rest) why
+  missing lines [] why none is = absurd cc
+  missing lines (b ∷ rest) why none is = let same : BadLine ≡ why = cc in (λ e. absurd cc, rw none (sym same))
+
+  said_last : (e : LogEvidenceValue) → IsLogOrder e × OfAllEvents (IsNamed names) e →
+      (lines : List ValueRefutationLine) × (tokens : List (List ℕ)) × All (OfLineEvents (IsNamed names)) lines × ((evidence_reading names).said lines tokens ≡ Ok (whole e))
+  said_last (order_of ns) ends = ([], log_order_tokens names ns, All-nil (OfLineEvents (IsNamed names)), order_read names ns ends.1)
+  said_last (refutation_of lines) ends = absurd ends.0
+
+  said_all : (e : LogEvidenceValue) → OfAllEvents (IsNamed names) e →
+      (IsLogOrder e × OfAllEvents (IsNamed names) e) ⊎ ((lines : List ValueRefutationLine) × All (OfLineEvents (IsNamed names)) lines × ((evidence_reading names).unended lines [] ≡ Ok e))
+  said_all (order_of ns) named = inl (tt, named)
+  said_all (refutation_of lines) named = inr (lines, named, refl)
+
+  refused_read : (lines : List ValueRefutationLine) (rest : List ℕ) (why : ValueTextRefusal) → (rest ≢ []) × AreRefused (suc (length lines)) (parts_of rest) why →
+      read_parts (evidence_reading names) lines (parts_of rest) ≡ Err (suc (length lines), why)
+  unfolding read_parts parts_of
+  refused_read lines rest why refused = by (parts_of rest) refl refused.1
     where
-      by : (parts : List (List ℕ)) → ArePartsRefused NoEnd BadLine (IsValueLineFault names) parts why → read_parts (value_reading names) steps parts ≡ Err (suc (length steps), why)
-      by [] refused = absurd refused
-      by (part ∷ []) refused = ap (λ w. Err (suc (length steps), w)) (sym refused)
-      by (part ∷ next ∷ parts) refused = rw (fault_said names (tokens_of part) why refused) refl
+      by : (parts : List (List ℕ)) → parts_of rest ≡ parts → AreRefused (suc (length lines)) parts why → read_parts (evidence_reading names) lines parts ≡ Err (suc (length lines), why)
+      by [] is bad = absurd bad
+      by ([] ∷ []) is bad = absurd (refused.0 (sym (join_with_byte-slice_split 10 rest) ∙ ap (join_with_byte 10) is))
+      by ((b ∷ part) ∷ []) is bad = ap (λ w. Err (suc (length lines), w)) (sym bad)
+      by (part ∷ next ∷ parts) is bad = rw (fault_said names (suc (length lines)) (tokens_of part) why bad) refl
 
-  said_last : (e : EvidenceValue) → OfAllEvents (IsNamed names) e → (steps : List ValueStep) × (tokens : List (List ℕ)) × All (OfEachEvent (IsNamed names)) steps × ((value_reading names).said steps tokens ≡ Ok (whole e))
-  said_last e named = (e.steps, value_end_tokens names e.end, named.0, said_line e.steps (value_end_tokens names e.end) _ (said-tokens names (End e.end) named.1))
-
-  pub are_read : AreReadBy value_texts (value_reading names)
+  pub are_read : AreReadBy evidence_texts (evidence_reading names)
   are_read = record {
     none = refl;
     line = line;
-    unended = λ steps rest e named is. absurd cc;
-    missing = λ steps rest why none is. rw none (let same : unended_value_fault rest ≡ why = cc in sym same);
-    said_one = λ steps s named. (value_step_tokens names s, said_line steps _ _ (said-tokens names (Step s) named));
+    unended = unended;
+    missing = missing;
+    said_one = λ lines l named. (refutation_line_tokens names l, line_read names (suc (length lines)) l named);
     said_last = said_last;
-    said_all = λ e named. inl named;
+    said_all = said_all;
     refused = refused_read;
   }
 
   -- ---- laws
 
-  pub spelled_or_refused : (text : List ℕ) → ((e : EvidenceValue) × SpellsValueEvidence names text e) ⊎ ((line : ℕ) × (why : ValueTextRefusal) × IsValueTextRefusal names text line why)
+  pub spelled_or_refused : (text : List ℕ) → ((e : LogEvidenceValue) × SpellsLogEvidence names text e) ⊎ ((line : ℕ) × (why : ValueTextRefusal) × IsValueTextRefusal names text line why)
   unfolding IsValueTextRefusal
-  spelled_or_refused text = texts.spelled_or_refused value_texts (value_reading names) are_read text
+  spelled_or_refused text = texts.spelled_or_refused evidence_texts (evidence_reading names) are_read text
 
-  pub not_both : (text : List ℕ) (e : EvidenceValue) (line : ℕ) (why : ValueTextRefusal) → SpellsValueEvidence names text e → IsValueTextRefusal names text line why → ⊥
+  pub not_both : (text : List ℕ) (e : LogEvidenceValue) (line : ℕ) (why : ValueTextRefusal) → SpellsLogEvidence names text e → IsValueTextRefusal names text line why → ⊥
   unfolding IsValueTextRefusal
-  not_both text e line why spells refusal = texts.not_both value_texts (value_reading names) are_read text e line why spells refusal
+  not_both text e line why spells refusal = texts.not_both evidence_texts (evidence_reading names) are_read text e line why spells refusal
 
-  pub one_value : (text : List ℕ) (d e : EvidenceValue) → SpellsValueEvidence names text d → SpellsValueEvidence names text e → d ≡ e
-  one_value text d e one other = texts.one_value value_texts (value_reading names) are_read text d e one other
+  pub one_value : (text : List ℕ) (d e : LogEvidenceValue) → SpellsLogEvidence names text d → SpellsLogEvidence names text e → d ≡ e
+  one_value text d e one other = texts.one_value evidence_texts (evidence_reading names) are_read text d e one other
 
   pub one_refusal : (text : List ℕ) (j k : ℕ) (v w : ValueTextRefusal) → IsValueTextRefusal names text j v → IsValueTextRefusal names text k w → (j ≡ k) × (v ≡ w)
   unfolding IsValueTextRefusal
-  one_refusal text j k v w one other = texts.one_refusal value_texts (value_reading names) are_read text j k v w one other
+  one_refusal text j k v w one other = texts.one_refusal evidence_texts (evidence_reading names) are_read text j k v w one other
 
 -- ---- the reader
 
 pub or_memory : (why : ValueTextRefusal) → (why ≡ OutOfMemory) ⊎ (why ≢ OutOfMemory)
 or_memory BadLine = inr (λ e. absurd cc)
 or_memory NoEvent = inr (λ e. absurd cc)
-or_memory NoEnd = inr (λ e. absurd cc)
 or_memory AfterEnd = inr (λ e. absurd cc)
 or_memory OutOfMemory = inl refl
 
-abbrev pub value_reader : List EventName → ReaderOf ValueStep EvidenceValue ValueTextRefusal ValueTextFault
-value_reader names = record {
-  texts = value_texts names;
-  reading = value_reading names;
+abbrev pub evidence_reader : List EventName → ReaderOf ValueRefutationLine LogEvidenceValue ValueTextRefusal ValueTextFault
+evidence_reader names = record {
+  texts = evidence_texts names;
+  reading = evidence_reading names;
   laws = are_read names;
   at = λ fault. (fault.line, fault.why);
   memory = OutOfMemory;
@@ -120,26 +149,40 @@ value_reader names = record {
 
 -- ---- answers, as contracts see them
 
-pub answer_ok : (P : EvidenceValue → Type 0) (answer : Result ValueEvidence ValueTextFault) → IfOk answer (λ e. P (evidence_value e)) → IfOk (value_answer answer) P
+pub answer_ok : (P : LogEvidenceValue → Type 0) (answer : Result LogEvidence ValueTextFault) → IfOk answer (λ e. P (log_evidence_value e)) → IfOk (evidence_answer answer) P
 answer_ok P (Ok e) holds = holds
 answer_ok P (Err fault) holds = tt
 
-pub answer_ended : (value : ValueEvidence) (L : Type 0) (answer : Result ValueEvidence ValueTextFault) → IfOk answer (λ e. (e ≡ value) × L) → IfOk (value_answer answer) (λ e. (e ≡ evidence_value value) × L)
-answer_ended value L (Ok e) holds = (ap evidence_value holds.0, holds.1)
+pub answer_ended : (value : LogEvidence) (L : Type 0) (answer : Result LogEvidence ValueTextFault) → IfOk answer (λ e. (e ≡ value) × L) → IfOk (evidence_answer answer) (λ e. (e ≡ log_evidence_value value) × L)
+answer_ended value L (Ok e) holds = (ap log_evidence_value holds.0, holds.1)
 answer_ended value L (Err fault) holds = tt
 
-pub ok_answer : (P : EvidenceValue → Type 0) (answer : Result ValueEvidence ValueTextFault) → IfOk (value_answer answer) P → IfOk answer (λ e. P (evidence_value e))
+pub ok_answer : (P : LogEvidenceValue → Type 0) (answer : Result LogEvidence ValueTextFault) → IfOk (evidence_answer answer) P → IfOk answer (λ e. P (log_evidence_value e))
 ok_answer P (Ok e) holds = holds
 ok_answer P (Err fault) holds = tt
 
-pub answer_err : (P : ValueTextFault → Type 0) (answer : Result ValueEvidence ValueTextFault) → IfErr answer P → IfErr (value_answer answer) P
+pub answer_err : (P : ValueTextFault → Type 0) (answer : Result LogEvidence ValueTextFault) → IfErr answer P → IfErr (evidence_answer answer) P
 answer_err P (Ok e) holds = tt
 answer_err P (Err fault) holds = holds
 
-pub err_answer : (P : ValueTextFault → Type 0) (answer : Result ValueEvidence ValueTextFault) → IfErr (value_answer answer) P → IfErr answer P
+pub err_answer : (P : ValueTextFault → Type 0) (answer : Result LogEvidence ValueTextFault) → IfErr (evidence_answer answer) P → IfErr answer P
 err_answer P (Ok e) holds = tt
 err_answer P (Err fault) holds = holds
 
-pub match_answer : (P : EvidenceValue → Type 0) (Q : ValueTextFault → Type 0) (answer : Result ValueEvidence ValueTextFault) → MatchResult (value_answer answer) P Q → MatchResult answer (λ e. P (evidence_value e)) Q
+pub match_answer : (P : LogEvidenceValue → Type 0) (Q : ValueTextFault → Type 0) (answer : Result LogEvidence ValueTextFault) → MatchResult (evidence_answer answer) P Q → MatchResult answer (λ e. P (log_evidence_value e)) Q
 match_answer P Q (Ok e) holds = holds
 match_answer P Q (Err fault) holds = holds
+
+-- ---- where no line end follows
+
+pub unended_found : (names : List EventName) (text rest : List ℕ) (lines : List ValueRefutationLine) (answer : Result LogEvidenceValue ValueTextFault) → IfOk answer (λ e. (e ≡ refutation_of lines) × (length rest ≡ 0)) →
+    read_parts (evidence_reading names) [] (parts_of text) ≡ on_line (suc (length lines)) ((evidence_reading names).unended lines rest) → IsFound (evidence_reader names) text answer
+unended_found names text [] lines (Ok e) found is = is ∙ ap Ok (sym found.0)
+unended_found names text (b ∷ rest) lines (Ok e) found is = absurd (let none = found.1 in omega (arith, none))
+unended_found names text rest lines (Err f) found is = tt
+
+pub unended_not : (names : List EventName) (text rest : List ℕ) (lines : List ValueRefutationLine) (answer : Result LogEvidenceValue ValueTextFault) (refusal : ValueTextFault) → IfErr answer (λ fault. (fault ≡ refusal) × (length rest ≡ 0 → ⊥)) →
+    (evidence_reader names).at refusal ≡ (suc (length lines), BadLine) → read_parts (evidence_reading names) [] (parts_of text) ≡ on_line (suc (length lines)) ((evidence_reading names).unended lines rest) → IsRefused (evidence_reader names) text answer
+unended_not names text rest lines (Ok e) refusal refused at is = tt
+unended_not names text [] lines (Err f) refusal refused at is = absurd (refused.1 refl)
+unended_not names text (b ∷ rest) lines (Err f) refusal refused at is = λ _. is ∙ ap Err (sym (ap (evidence_reader names).at refused.0 ∙ at))

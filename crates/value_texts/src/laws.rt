@@ -7,20 +7,20 @@ ghost use Rattle.log_text.specs.LogValues.{NumberedLog, log_operations};
 ghost use Rattle.value_texts.specs.declared.names.EventName.{EventName};
 ghost use Rattle.value_texts.specs.declared.refusals.ValueTextRefusal.{ValueTextRefusal};
 ghost use Rattle.value_texts.specs.Names.{AreNamesDistinct, IsNumbered, NamesFit, event_names, is_store_of_swap};
-ghost use Rattle.value_texts.specs.Printed.{EvidenceValue, OfAllEvents, value_evidence_text};
-ghost use Rattle.value_texts.specs.Spelling.{SpellsValueEvidence, IsValueTextRefusal, IsSpelledValueEvidence, IsRefusedValueEvidence};
+ghost use Rattle.value_texts.specs.Printed.{LogEvidenceValue, OfAllEvents, evidence_text_of_log};
+ghost use Rattle.value_texts.specs.Spelling.{SpellsLogEvidence, IsValueTextRefusal, IsSpelledLogEvidence, IsRefusedLogEvidence};
 
 /// Each text spells evidence or is refused, never both; it spells one evidence, and gets one refusal; what spells evidence is its
 /// printed text, and the printed text of evidence spells it, where no two events have one name.
 pub fn texts_of_value_evidence()
-    ensures spelled_or_refused { (names : List EventName) (text : List ℕ) → IsSpelledValueEvidence names text ⊎ IsRefusedValueEvidence names text }
-    ensures never_both { (names : List EventName) (text : List ℕ) → IsSpelledValueEvidence names text → IsRefusedValueEvidence names text → ⊥ }
-    ensures one_value { (names : List EventName) (text : List ℕ) (d e : EvidenceValue) → SpellsValueEvidence names text d →
-        SpellsValueEvidence names text e → d ≡ e }
+    ensures spelled_or_refused { (names : List EventName) (text : List ℕ) → IsSpelledLogEvidence names text ⊎ IsRefusedLogEvidence names text }
+    ensures never_both { (names : List EventName) (text : List ℕ) → IsSpelledLogEvidence names text → IsRefusedLogEvidence names text → ⊥ }
+    ensures one_value { (names : List EventName) (text : List ℕ) (d e : LogEvidenceValue) → SpellsLogEvidence names text d →
+        SpellsLogEvidence names text e → d ≡ e }
     ensures one_refusal { (names : List EventName) (text : List ℕ) (j k : ℕ) (v w : ValueTextRefusal) → IsValueTextRefusal names text j v →
         IsValueTextRefusal names text k w → (j ≡ k) × (v ≡ w) }
-    ensures printed { (names : List EventName) (e : EvidenceValue) → AreNamesDistinct names → NamesFit names → OfAllEvents (IsNumbered names) e →
-        SpellsValueEvidence names (value_evidence_text names e) e }
+    ensures printed { (names : List EventName) (e : LogEvidenceValue) → AreNamesDistinct names → NamesFit names → OfAllEvents (IsNumbered names) e →
+        SpellsLogEvidence names (evidence_text_of_log names e) e }
 {}
 
 /// A log has as many names as events, and the names of the stores of swaps have their numbers. No two events of a log that a text

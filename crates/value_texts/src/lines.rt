@@ -1,28 +1,91 @@
 //! What a line says.
-ghost use Rattle.std.specs.Prelude.{◌≡◌, ◌∷◌, [], IfOk, IfErr, OnOk};
+ghost use Rattle.std.specs.Prelude.{◌≡◌, ◌≢◌, ◌∷◌, [], Result, IfOk, IfErr, OnOk};
 ghost use Rattle.line_text.specs.Lines.{SomeToken, tokens_of, tokens_after};
 ghost use Rattle.value_texts.specs.declared.refusals.ValueTextRefusal.{ValueTextRefusal};
-ghost use Rattle.value_texts.specs.Internal.LineValues.{one_said, pair_said, three_said, read_said, value_line_said, word_said};
+ghost use Rattle.value_texts.specs.Internal.LineValues.{one_said, pair_said, three_said, read_said, events_said, evidence_line_said, order_said, refuting_said, step_said, word_said};
+ghost use Rattle.value_texts.specs.Internal.ReadTexts.{said_of};
 
 use crate::refusals::ValueTextRefusal;
 use crate::tables::NumberedNames;
-use crate::words::Word;
+use crate::words::{StepWord, Word};
 use line_text::next_token;
-use value_evidence::{ValueEnd, ValueStep};
+use std::alloc::Global;
+use value_evidence::{ValueEnd, ValueRefutationLine, ValueStep};
 
 /// What a line of evidence says.
-#[derive(Clone, Copy)]
+#[derive(Drop)]
 pub(crate) enum Line {
-    Step(ValueStep),
-    End(ValueEnd),
+    Refuting(ValueRefutationLine),
+    Order(Vec<usize>),
 }
 
-/// What this line says, or its fault.
-#[tactic(auto, unfolding(crate::specs::Internal::LineValues::value_line_said))]
-pub(crate) fn read_line(names: &NumberedNames<'_>, bytes: &[u8]) -> Result<Line, ValueTextRefusal>
-    ensures { result ≡ value_line_said names.now (tokens_of bytes.now) }
+/// What the line of this number says, or its fault.
+#[tactic(auto, unfolding(crate::specs::Internal::LineValues::evidence_line_said))]
+pub(crate) fn read_line(
+    alloc: Global,
+    names: &NumberedNames<'_>,
+    number: usize,
+    bytes: &[u8],
+) -> Result<Line, ValueTextRefusal>
+    ensures found { IfOk result (λ line. evidence_line_said names.now number (tokens_of bytes.now) ≡ Result.Ok (said_of line)) }
+    ensures refused { IfErr result (λ why. why ≢ ValueTextRefusal.OutOfMemory →
+        evidence_line_said names.now number (tokens_of bytes.now) ≡ Result.Err why) }
 {
     let (first, tokens) = next_token(bytes);
+    if first == b"order".as_slice() {
+        let numbers = read_order(alloc, names, number, tokens)?;
+        Ok(Line::Order(numbers))
+    } else {
+        let refuting = read_refuting(names, first, tokens)?;
+        Ok(Line::Refuting(refuting))
+    }
+}
+
+/// The events of a line `order` of this number, of the tokens after its word.
+#[tactic(auto, unfolding(crate::specs::Internal::LineValues::order_said))]
+fn read_order(
+    alloc: Global,
+    names: &NumberedNames<'_>,
+    number: usize,
+    tokens: Option<&[u8]>,
+) -> Result<Vec<usize>, ValueTextRefusal>
+    ensures found { IfOk result (λ numbers. order_said names.now number (tokens_after tokens.entry) ≡ Result.Ok numbers.items) }
+    ensures refused { IfErr result (λ why. why ≢ ValueTextRefusal.OutOfMemory →
+        order_said names.now number (tokens_after tokens.entry) ≡ Result.Err why) }
+{
+    if number != 1 {
+        return Err(ValueTextRefusal::BadLine);
+    }
+    read_events(alloc, names, tokens)
+}
+
+/// The events that tokens name, in their order.
+fn read_events(
+    alloc: Global,
+    names: &NumberedNames<'_>,
+    tokens: Option<&[u8]>,
+) -> Result<Vec<usize>, ValueTextRefusal>
+    ensures found { IfOk result (λ numbers. events_said names.now (tokens_after tokens.entry) ≡ Result.Ok numbers.items) }
+    ensures refused { IfErr result (λ why. why ≢ ValueTextRefusal.OutOfMemory → events_said names.now (tokens_after tokens.entry) ≡ Result.Err why) }
+{
+    let mut numbers = Vec::new(alloc);
+    let mut left = tokens;
+    'tokens: while let Some(line) = left {
+        let (token, rest) = next_token(line);
+        numbers.push(names.event(token)?)?;
+        left = rest;
+    }
+    Ok(numbers)
+}
+
+/// What a line of a refutation says, by its first token and those after it.
+fn read_refuting(
+    names: &NumberedNames<'_>,
+    first: &[u8],
+    tokens: Option<&[u8]>,
+) -> Result<ValueRefutationLine, ValueTextRefusal>
+    ensures { result ≡ refuting_said names.now first.now (tokens_after tokens.entry) }
+{
     match Word::of(first) {
         Some(word) => read_word(names, word, tokens),
         None => Err(ValueTextRefusal::BadLine),
@@ -35,36 +98,68 @@ fn read_word(
     names: &NumberedNames<'_>,
     word: Word,
     tokens: Option<&[u8]>,
-) -> Result<Line, ValueTextRefusal>
+) -> Result<ValueRefutationLine, ValueTextRefusal>
     ensures { result ≡ word_said names.now word (tokens_after tokens.entry) }
 {
     match word {
-        Word::Read => {
+        Word::Step(word) => Ok(ValueRefutationLine::Step(read_step(names, word, tokens)?)),
+        Word::CaseRead => {
             let (load, source) = read_read(names, tokens)?;
-            Ok(Line::Step(ValueStep::Read { load, source }))
+            Ok(ValueRefutationLine::ReadCase { load, source })
         }
-        Word::In => {
+        Word::CaseBefore => {
+            let (first, second) = read_pair(names, tokens)?;
+            Ok(ValueRefutationLine::BeforeCase { first, second })
+        }
+        Word::Else => {
+            finish(tokens)?;
+            Ok(ValueRefutationLine::Else)
+        }
+        Word::NoSource => {
+            let end = ValueEnd::NoSource(read_one(names, tokens)?);
+            Ok(ValueRefutationLine::End(end))
+        }
+        Word::Cycle => {
+            let end = ValueEnd::Cycle(read_one(names, tokens)?);
+            Ok(ValueRefutationLine::End(end))
+        }
+    }
+}
+
+/// The step of this word and these tokens, or the fault of its line.
+#[tactic(auto, unfolding(crate::specs::Internal::LineValues::step_said))]
+fn read_step(
+    names: &NumberedNames<'_>,
+    word: StepWord,
+    tokens: Option<&[u8]>,
+) -> Result<ValueStep, ValueTextRefusal>
+    ensures { result ≡ step_said names.now word (tokens_after tokens.entry) }
+{
+    match word {
+        StepWord::Read => {
+            let (load, source) = read_read(names, tokens)?;
+            Ok(ValueStep::Read { load, source })
+        }
+        StepWord::In => {
             let (from, load) = read_pair(names, tokens)?;
-            Ok(Line::Step(ValueStep::In { from, load }))
+            Ok(ValueStep::In { from, load })
         }
-        Word::Out => {
+        StepWord::Out => {
             let (load, to) = read_pair(names, tokens)?;
-            Ok(Line::Step(ValueStep::Out { load, to }))
+            Ok(ValueStep::Out { load, to })
         }
-        Word::Over => {
+        StepWord::Over => {
             let (from, to, load) = read_three(names, tokens)?;
-            Ok(Line::Step(ValueStep::Over { from, to, load }))
+            Ok(ValueStep::Over { from, to, load })
         }
-        Word::After => {
+        StepWord::After => {
             let (swap, to) = read_pair(names, tokens)?;
-            Ok(Line::Step(ValueStep::SwapAfter { swap, to }))
+            Ok(ValueStep::SwapAfter { swap, to })
         }
-        Word::Before => {
+        StepWord::Before => {
             let (from, swap) = read_pair(names, tokens)?;
-            Ok(Line::Step(ValueStep::SwapBefore { from, swap }))
+            Ok(ValueStep::SwapBefore { from, swap })
         }
-        Word::NoSource => Ok(Line::End(ValueEnd::NoSource(read_one(names, tokens)?))),
-        Word::Cycle => Ok(Line::End(ValueEnd::Cycle(read_one(names, tokens)?))),
     }
 }
 
@@ -111,7 +206,7 @@ fn read_three(
     ))
 }
 
-/// The load and the source of a line `read`.
+/// The load and the source of a line `read` or `case-read`.
 #[tactic(auto, unfolding(crate::specs::Internal::LineValues::read_said))]
 fn read_read(
     names: &NumberedNames<'_>,

@@ -1,20 +1,20 @@
 ghost use Rattle.std.specs.Prelude.{◌≡◌};
 ghost use Rattle.value_texts.specs.declared.refusals.ValuePrintRefusal.{ValuePrintRefusal};
+ghost use Rattle.value_texts.specs.declared.refusals.ValueTextRefusal.{ValueTextRefusal};
 
-use std::alloc::AllocError;
+use std::alloc::{AllocError, AllocFailed};
 use thiserror::Error;
 
-/// Why the text of evidence by values is refused.
+/// Why the text of evidence about a log is refused. Of two on one line the first counts.
 #[derive(Clone, Copy, Debug, PartialEq, Eq, Error)]
 #[error("{}", self.name())]
 pub enum ValueTextRefusal {
-    /// A line with no line end; or one that isn't the word of a step or an end and as many tokens after it as that has events.
+    /// A line with no line end; one that isn't the word of a line of a refutation and as many tokens after it as that has events; or
+    /// `order` on another line than the first.
     BadLine,
     /// A token that should name an event of the log, and names none.
     NoEvent,
-    /// The text ends after a whole line, or is empty, and no line `nosource` or `cycle` came.
-    NoEnd,
-    /// A byte after the line `nosource` or `cycle`.
+    /// A byte after the line `order`.
     AfterEnd,
     /// An allocation was refused.
     OutOfMemory,
@@ -30,10 +30,25 @@ impl ValueTextRefusal {
         match self {
             ValueTextRefusal::BadLine => "BadLine",
             ValueTextRefusal::NoEvent => "NoEvent",
-            ValueTextRefusal::NoEnd => "NoEnd",
             ValueTextRefusal::AfterEnd => "AfterEnd",
             ValueTextRefusal::OutOfMemory => "OutOfMemory",
         }
+    }
+}
+
+impl From<AllocError> for ValueTextRefusal {
+    ghost from_gives = { λ _ why. why ≡ ValueTextRefusal.OutOfMemory };
+
+    fn from(_error: AllocError) -> ValueTextRefusal {
+        ValueTextRefusal::OutOfMemory
+    }
+}
+
+impl<T: Drop> From<AllocFailed<T>> for ValueTextRefusal {
+    ghost from_gives = { λ _ why. why ≡ ValueTextRefusal.OutOfMemory };
+
+    fn from(_error: AllocFailed<T>) -> ValueTextRefusal {
+        ValueTextRefusal::OutOfMemory
     }
 }
 

@@ -1,30 +1,52 @@
 //! What the matches of `log` ask for.
-ghost use Rattle.std.specs.Prelude.{◌≡◌, IfOk, codes};
+ghost use Rattle.std.specs.Prelude.{◌≡◌, IfOk, codes, option_map};
 ghost use Rattle.clap.specs.Words.{found_of, one_of, rows_of};
 ghost use Rattle.command_line.specs.Commands.{asked_in, given_in};
 ghost use Rattle.command_line.specs.Requests.{asked_of};
 ghost use Rattle.command_line.specs.Options.{is_true, log_form_of, log_options_of};
-ghost use Rattle.command_line.specs.Subcommands.{log, log_parameters};
+ghost use Rattle.command_line.specs.Subcommands.{log, log_asked, log_parameters};
 
 use super::refuse;
 use crate::help;
 use crate::options::{MAX_LOG_EFFORT, MAX_LOG_VIOLATIONS, MAX_PERCENT};
-use crate::requests::{LogRequest, Request};
+use crate::requests::{DecideLogRequest, LogRequest, Request};
 use crate::values::{file, is_used, number_within};
 use clap::ArgMatches;
 use request_options::{LogForm, LogOptions};
 use std::alloc::{AllocError, Global};
 
-/// Of `log`: a refusal of two forms.
+/// Of `log`: a refusal of two forms, or of a form of a decision.
 pub(crate) fn log<'a>(alloc: Global, matches: &ArgMatches<'a>) -> Result<Request<'a>, AllocError>
     ensures { IfOk result (λ request. asked_of request ≡ asked_in log (rows_of (found_of matches.now))) }
 {
     match log_options(matches) {
-        Some(options) => Ok(Request::Log(LogRequest {
-            file: file(matches, "file"),
+        Some(options) => on_log(
+            alloc,
+            is_used(matches, "decide"),
+            file(matches, "file"),
             options,
-        })),
+        ),
         None => refuse(alloc, help::SEVERAL_FORMS),
+    }
+}
+
+/// To decide on a log, or to find violations of it: a refusal of a form of a decision.
+fn on_log<'a>(
+    alloc: Global,
+    decides: bool,
+    file: Option<&'a str>,
+    options: LogOptions,
+) -> Result<Request<'a>, AllocError>
+    ensures { IfOk result (λ request. asked_of request ≡ log_asked decides (option_map (λ name. name.now) file.entry) options) }
+{
+    match (decides, options.form) {
+        (false, _) => Ok(Request::Log(LogRequest { file, options })),
+        (true, LogForm::Lines) => Ok(Request::DecideLog(DecideLogRequest {
+            file,
+            effort: options.effort,
+            needs_end: options.needs_end,
+        })),
+        (true, _) => refuse(alloc, help::SEVERAL_FORMS),
     }
 }
 

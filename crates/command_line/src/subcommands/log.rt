@@ -1,5 +1,5 @@
-//! `log [--most K] [--effort N] [--max-unknown PERCENT] [--ended] [--trace|--explain|--evidence] [--progress] [--verbose] [FILE]`:
-//! finds violations of a log.
+//! `log [--most K] [--effort N] [--max-unknown PERCENT] [--ended] [--trace|--explain|--evidence|--decide] [--progress] [--verbose] [FILE]`:
+//! finds violations of a log, or decides on it.
 
 use crate::help::Help;
 use crate::options::{MAX_LOG_EFFORT, MAX_LOG_VIOLATIONS, MAX_PERCENT};
@@ -52,9 +52,18 @@ values of one violation, which `tsobench verify --log` checks against the log,
 or nothing where it found none. If the text is no log, a line says so, as
 REFUSED BadLine line 3.
 
+With --decide it searches for an order of all loads and stores of the log that
+explains it, and prints CONSISTENT and the order, or VIOLATION and a refutation,
+which may suppose what loads read, case by case. It supposes as many cases as
+--effort says; UNDECIDED 100 means that 100 were not enough. Of the text after
+the line of the answer `tsobench verify --log` checks that it holds. --most and
+--max-unknown say nothing then.
+
 Exit status:
-  0  no violation was found, which proves nothing about the log
-  1  no violation was found, and not all was judged
+  0  no violation was found, which proves nothing about the log; with --decide
+     an order was found
+  1  no violation was found, and not all was judged; with --decide neither an
+     order nor a refutation was found
   2  the text is no log, or the command line was refused
   3  a violation of the log's memory model was found
   4  a fault, which one line on standard error names, as FAULT Read
@@ -84,7 +93,7 @@ pub(crate) static LOG: Description = Description {
             value_name: "N",
             accepted: Accepted::Number(0, MAX_LOG_EFFORT as u64),
             default: Some("100"),
-            help: "How many steps the search may do for each load and store, 0 to 1000000",
+            help: "How many steps for each load and store, or how many cases to decide, 0 to 1000000",
         },
         Parameter::Option {
             name: "max-unknown",
@@ -108,6 +117,10 @@ pub(crate) static LOG: Description = Description {
         Parameter::Flag {
             name: "evidence",
             help: "Prints evidence by values of a violation, and no report",
+        },
+        Parameter::Flag {
+            name: "decide",
+            help: "Decides on the log, and prints an order or a refutation",
         },
         shared::PROGRESS,
         shared::VERBOSE,

@@ -23,17 +23,12 @@ the evidence isn't read. One of the two may be -, which is standard input. With
 other, as `tsobench judge` judges it.
 
 With --log the first text is a log, of any length, and the evidence is that of
-`tsobench log --evidence`; --nth may not stand beside it. It prints one line:
-
-  REFUTATION HOLDS                       no order of the log meets the axioms
-  REFUTATION REFUSED StepRefused line K  a step of the evidence does not follow
-  REFUTATION REFUSED EndRefused line K   its end does not follow from its steps
-  EVIDENCE REFUSED BadLine line N        it spells no evidence by values; there
-                                         may be NoEvent, NoEnd or AfterEnd too
-  REFUSED BadLine line N                 the first text is no log
+`tsobench log --evidence`, or as it stands in what `tsobench log --decide` says
+after the line of the answer; --nth may not stand beside it. It prints a line as
+above, and names events by lines of the log.
 
 Exit status:
-  0  the order holds: the trace is consistent
+  0  the order holds: the trace or the log is consistent
   2  the trace, the log, the evidence or the command line was refused
   3  the refutation holds: the trace or the log violates its memory model
   4  a fault, which one line on standard error names, as FAULT Read
@@ -41,12 +36,12 @@ Exit status:
 Example:
   tsobench decide TRACE | sed 1,3d > EVIDENCE
   tsobench verify TRACE EVIDENCE
-  tsobench log --evidence LOG > EVIDENCE
+  tsobench log --decide LOG | sed 1,3d > EVIDENCE
   tsobench verify --log LOG EVIDENCE";
 
 /// What the help says of it.
 pub(crate) static HELP: Help = Help {
-    about: "Checks an order of a trace, or evidence that there is none",
+    about: "Checks an order of a trace or a log, or evidence that there is none",
     text: TEXT,
 };
 
@@ -56,7 +51,7 @@ pub(crate) static VERIFY: Description = Description {
     parameters: &[
         Parameter::Flag {
             name: "log",
-            help: "Checks evidence by values against a log",
+            help: "Checks evidence about a log",
         },
         shared::NTH,
         shared::VERBOSE,
@@ -70,7 +65,7 @@ pub(crate) static VERIFY: Description = Description {
             name: "evidence",
             value_name: "EVIDENCE",
             required: true,
-            help: "The text of an order, a certificate, a refutation or evidence by values",
+            help: "The text of an order, a certificate or a refutation",
         },
     ],
 };

@@ -1,4 +1,4 @@
-//! `verify --log`: evidence by values against a log.
+//! `verify --log`: evidence about a log.
 ghost use Rattle.std.specs.Prelude.{◌≡◌, ◌≢◌, IfOk, IfErr, OnOk, true, false};
 ghost use Rattle.command_line.specs.Requests.{asked_of, files_of};
 ghost use Rattle.command_line.specs.declared.requests.Request.TheVariants.{VerifyLog};
@@ -15,7 +15,7 @@ use std::io::{Read, Write};
 use text_streams::Fault;
 use trace_reports::Answer;
 
-/// Checks evidence by values, the second text, against a log, the first. The files of both are opened before one is read, and the
+/// Checks evidence, the second text, about a log, the first. The files of both are opened before one is read, and the
 /// second isn't read where the first is no log.
 pub(crate) fn check_log_named<O: Environment, R: Read, W: Write>(
     alloc: Global,

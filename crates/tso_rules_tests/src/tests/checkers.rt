@@ -2,7 +2,9 @@
 //! `program-cases/` has short texts.
 
 mod faults;
+mod log_orders;
 mod long;
 mod refused_allocations;
 mod value_lines;
+mod value_refutations;
 mod values;

@@ -2,7 +2,7 @@
 use Rattle.std.specs.Prelude.{◌≡◌, ◌≢◌, ◌↔◌, ℕ, suc, ◌<◌, false, Bool, IsTrue, cond, List, length, get_or, map}
 use Rattle.std.specs.List.{Contains}
 use Rattle.tso_ops.specs.Values.{TraceValue}
-use Rattle.tso_ops.specs.Events.{HasFirstValue, IsEvent, IsSwapLoad, SameAddress}
+use Rattle.tso_ops.specs.Events.{HasFirstValue, IsEvent, IsLoad, IsSwapLoad, SameAddress}
 use Rattle.chain_reach.specs.Groups.{count_of}
 use Rattle.chain_reach.specs.Leading.{Leads}
 use Rattle.program_chains.specs.declared.events.LogEvent.{LogEvent}
@@ -67,3 +67,8 @@ IsKnownBy t steps k = IsKnownFrom t steps steps k
 -- the step says that u comes before v, and nothing else
 abbrev pub SaysJust : ValueStep → ℕ → ℕ → Type 0
 SaysJust step u v = (x y : ℕ) → SaysBefore step x y ↔ ((u ≡ x) × (v ≡ y))
+
+-- The step speaks of events, and of a load where it says what that read.
+pub record IsOfEvents (t : TraceValue) (s : ValueStep) : Type 0 where
+  pub pairs : (u v : ℕ) → SaysBefore s u v → IsEvent t u × IsEvent t v
+  pub loads : (l r : ℕ) → s ≡ Read l r → IsLoad t l

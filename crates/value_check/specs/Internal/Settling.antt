@@ -10,7 +10,7 @@ use Rattle.value_evidence.specs.Evidence.{IsUpToBy}
 use Rattle.value_check.specs.declared.known.Known.{Known}
 use Rattle.value_check.specs.declared.settling.Demand.{Demand}
 use Rattle.value_check.specs.declared.settling.Question.{Question}
-use Rattle.value_check.specs.declared.settling.Demand.TheVariants.{Is, After, Before, UpTo, Nothing}
+use Rattle.value_check.specs.declared.settling.Demand.TheVariants.{Is, After, Before, UpTo, SetAside}
 
 -- the number of a source meets what is asked
 abbrev pub Meets : TraceValue → List ValueStep → ℕ → Demand → ℕ → Type 0
@@ -18,7 +18,7 @@ Meets t steps l (Is number) r = r ≡ number
 Meets t steps l (After from) r = (0 < r) × (Earlier t r l → ⊥) × IsUpToBy t steps (suc from) r
 Meets t steps l (Before to) r = (r ≡ 0) ⊎ ComesBefore t steps r (suc to)
 Meets t steps l (UpTo to) r = IsUpToBy t steps r (suc to)
-Meets t steps l Nothing r = ⊥
+Meets t steps l (SetAside numbers) r = Contains numbers.items r
 
 -- it does, or the load can't have read it
 abbrev pub IsSettled : TraceValue → List ValueStep → ℕ → Demand → ℕ → Type 0
@@ -55,7 +55,7 @@ IsLedOn t steps (Is number) r = ⊥
 IsLedOn t steps (After from) r = ⊥
 IsLedOn t steps (Before to) r = ComesBefore t steps r (suc to)
 IsLedOn t steps (UpTo to) r = ComesBefore t steps r (suc to)
-IsLedOn t steps Nothing r = ⊥
+IsLedOn t steps (SetAside numbers) r = ⊥
 
 abbrev pub SettlesBefore : TraceValue → List ValueStep → Question → ℕ → Type 0
 SettlesBefore t steps q x = IsOver t steps (suc q.load) (suc x) ⊎ IsLedOn t steps q.wanted (suc x)
@@ -66,7 +66,7 @@ IsLedTo t steps (Is number) r = ⊥
 IsLedTo t steps (After from) r = ComesBefore t steps (suc from) r
 IsLedTo t steps (Before to) r = ⊥
 IsLedTo t steps (UpTo to) r = ⊥
-IsLedTo t steps Nothing r = ⊥
+IsLedTo t steps (SetAside numbers) r = ⊥
 
 abbrev pub SettlesAfter : TraceValue → List ValueStep → Question → ℕ → Type 0
 SettlesAfter t steps q x = (Earlier t (suc x) (suc q.load) → ⊥) × (ComesBefore t steps (suc q.load) (suc x) ⊎ IsLedTo t steps q.wanted (suc x))
@@ -77,7 +77,7 @@ IsAsked t q (Is number) x = suc x ≡ number
 IsAsked t q (After from) x = (from ≡ x) × (Earlier t (suc x) (suc q.load) → ⊥)
 IsAsked t q (Before to) x = ⊥
 IsAsked t q (UpTo to) x = x ≡ to
-IsAsked t q Nothing x = ⊥
+IsAsked t q (SetAside numbers) x = Contains numbers.items (suc x)
 
 -- the load can have read these stores by their values
 abbrev pub AreSources : TraceValue → ℕ → List ℕ → Type 0

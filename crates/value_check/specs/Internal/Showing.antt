@@ -5,7 +5,8 @@ use Rattle.tso_ops.specs.Events.{IsLoad}
 use Rattle.value_evidence.specs.declared.steps.ValueEnd.{ValueEnd}
 use Rattle.value_evidence.specs.declared.steps.ValueStep.{ValueStep}
 use Rattle.value_evidence.specs.Candidates.{CanRead}
-use Rattle.value_evidence.specs.Evidence.{EndHolds, ValueStepHolds}
+use Rattle.value_evidence.specs.Evidence.{ValueStepHolds}
+use Rattle.value_evidence.specs.Refutations.{EndHoldsBeside}
 use Rattle.value_check.specs.declared.known.Known.{Known}
 use Rattle.value_check.specs.declared.settling.Demand.{Demand}
 use Rattle.value_check.specs.Internal.Known.{IsKnownBy}
@@ -21,6 +22,6 @@ ShowsAll k load wanted is =
 abbrev pub ShowsStep : Known → ValueStep → Bool → Type 0
 ShowsStep k step is = (t : TraceValue) (steps : List ValueStep) → IsKnownBy t steps k → IsTrue is ↔ ValueStepHolds t steps step
 
--- whether they leave no order
-abbrev pub ShowsEnd : Known → ValueEnd → Bool → Type 0
-ShowsEnd k end is = (t : TraceValue) (steps : List ValueStep) → IsKnownBy t steps k → IsTrue is ↔ EndHolds t steps end
+-- whether they leave no order beside what is set aside
+abbrev pub ShowsEnd : Known → List (ℕ × ℕ) → ValueEnd → Bool → Type 0
+ShowsEnd k aside end is = (t : TraceValue) (steps : List ValueStep) → IsKnownBy t steps k → IsTrue is ↔ EndHoldsBeside t steps aside end

@@ -1,36 +1,31 @@
 -- How the text of evidence is read, line by line.
-use Rattle.std.specs.Prelude.{ℕ, List, Result, Ok, Err, if◌then◌else◌}
+use Rattle.std.specs.Prelude.{suc, length, Result, Ok, Err, List, if◌then◌else◌}
 use Rattle.line_text.specs.Lines.{is_empty}
 use Rattle.line_text.specs.Readings.{Said, element, whole, Reading}
-use Rattle.line_text.specs.Results.{◌>>=◌}
-use Rattle.value_evidence.specs.declared.steps.ValueStep.{ValueStep}
-use Rattle.value_evidence.specs.declared.steps.ValueEvidence.{ValueEvidence}
+use Rattle.value_evidence.specs.declared.refutations.ValueRefutationLine.{ValueRefutationLine}
+use Rattle.value_evidence.specs.declared.refutations.LogEvidence.{LogEvidence}
 use Rattle.value_texts.specs.declared.lines.Line.{Line}
-use Rattle.value_texts.specs.declared.lines.Line.TheVariants.{Step, End}
+use Rattle.value_texts.specs.declared.lines.Line.TheVariants.{Refuting, Order}
 use Rattle.value_texts.specs.declared.names.EventName.{EventName}
 use Rattle.value_texts.specs.declared.refusals.ValueTextFault.{ValueTextFault}
 use Rattle.value_texts.specs.declared.refusals.ValueTextRefusal.{ValueTextRefusal}
-use Rattle.value_texts.specs.declared.refusals.ValueTextRefusal.TheVariants.{BadLine, NoEnd, AfterEnd}
-use Rattle.value_texts.specs.Printed.{EvidenceValue, evidence_value}
-use Rattle.value_texts.specs.Internal.LineValues.{value_line_said}
+use Rattle.value_texts.specs.declared.refusals.ValueTextRefusal.TheVariants.{BadLine, AfterEnd}
+use Rattle.value_texts.specs.Printed.{LogEvidenceValue, order_of, refutation_of, log_evidence_value}
+use Rattle.value_texts.specs.Internal.LineValues.{evidence_line_said}
 
--- what stands after the last line end, where no last line came
-abbrev pub unended_value_fault : List ℕ → ValueTextRefusal
-unended_value_fault part = if is_empty part then NoEnd else BadLine
+-- a line, as contracts see it
+abbrev pub said_of : Line → Said ValueRefutationLine LogEvidenceValue
+said_of (Refuting l) = element l
+said_of (Order numbers) = whole (order_of numbers.items)
 
--- what a line says after those of these steps
-abbrev pub said_after : List ValueStep → Line → Said ValueStep EvidenceValue
-said_after steps (Step s) = element s
-said_after steps (End e) = whole (record { steps = steps; end = e })
-
-abbrev pub value_reading : List EventName → Reading ValueStep EvidenceValue ValueTextRefusal
-value_reading names = record {
-  said = λ steps tokens. value_line_said names tokens >>= λ l. Ok (said_after steps l);
-  unended = λ steps part. Err (unended_value_fault part);
+abbrev pub evidence_reading : List EventName → Reading ValueRefutationLine LogEvidenceValue ValueTextRefusal
+evidence_reading names = record {
+  said = λ lines tokens. evidence_line_said names (suc (length lines)) tokens;
+  unended = λ lines part. if is_empty part then Ok (refutation_of lines) else Err BadLine;
   after_end = AfterEnd;
 }
 
 -- an answer, as contracts see it
-abbrev pub value_answer : Result ValueEvidence ValueTextFault → Result EvidenceValue ValueTextFault
-value_answer (Ok e) = Ok (evidence_value e)
-value_answer (Err fault) = Err fault
+abbrev pub evidence_answer : Result LogEvidence ValueTextFault → Result LogEvidenceValue ValueTextFault
+evidence_answer (Ok e) = Ok (log_evidence_value e)
+evidence_answer (Err fault) = Err fault

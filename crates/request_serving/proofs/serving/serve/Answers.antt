@@ -1,6 +1,6 @@
 use Rattle.command_line.specs.Requests.{asked_of, files_of}
 use Rattle.text_streams.specs.WrittenTexts.{LeavesAtFault}
-use Rattle.request_serving.specs.Deciding.{IsDecided}
+use Rattle.request_serving.specs.Deciding.{IsDecided, IsDecidedLog}
 use Rattle.request_serving.specs.Endings.{IsFollowedRun, IsLogged, IsVerdictAsAsked, Outputs, outputs}
 use Rattle.request_texts.specs.OpenedFiles.{name_in, text_bytes}
 use Rattle.run_serving.specs.Replaying.{IsReplayText}
@@ -147,6 +147,26 @@ returns-in-Replay-clause-no_false_alarm_of_text g c = λ lawful. known_status (a
 
 pub returns-in-Run-clause-no_false_alarm_of_text : goal.returns-in-Run-clause-no_false_alarm_of_text
 returns-in-Run-clause-no_false_alarm_of_text g c = λ lawful. known_status (asked_of c.args.request.now) _ _ _ _ (returns-in-Run-clause-ends g c) lawful
+
+pub returns-in-DecideLog-clause-ends : goal.returns-in-DecideLog-clause-ends
+returns-in-DecideLog-clause-ends g c =
+    let o : Outputs = outputs (g.W.Write.contents c.args.writer.now) (g.W.Write.contents c.decide_log_named-decided.new.writer) (g.E.Write.contents c.args.errors.now) (g.E.Write.contents c.end_answer-in-DecideLog.new.errors) in
+    let request = c.in-DecideLog.request in
+    let is_text = IsDecidedLog request.effort request.needs_end (text_bytes (name_in request.file) (g.R.Read.remaining c.args.reader.now) (g.O.Environment.bytes c.args.files.now)) in
+    let followed = c.decide_log_named-decided in
+    let ended = c.end_answer-in-DecideLog in
+    rw c.in-DecideLog.is (ends_as is_text status_of_answer (λ old new fault. (fault ≢ NoThread) × LeavesAtFault is_text old new fault) o followed.result ended.result followed.ensures.whole
+    (without_thread is_text _ _ followed.result followed.ensures.no_thread followed.ensures.fault) ended.ensures.answer ended.ensures.fault)
+
+pub returns-in-DecideLog-clause-first : goal.returns-in-DecideLog-clause-first
+returns-in-DecideLog-clause-first g c = rw c.in-DecideLog.is (opens_all _ _ _ c.decide_log_named-decided.ensures.opened)
+
+pub returns-in-DecideLog-clause-unread : goal.returns-in-DecideLog-clause-unread
+returns-in-DecideLog-clause-unread g c = rw c.in-DecideLog.is (λ unread. named c.in-DecideLog.request.file c.decide_log_named-decided.ensures.unread unread)
+
+pub returns-in-DecideLog-clause-taken : goal.returns-in-DecideLog-clause-taken
+returns-in-DecideLog-clause-taken g c = rw c.in-DecideLog.is (λ reads other.
+    at_text c.decide_log_named-decided.result c.end_answer-in-DecideLog.result _ _ _ c.end_answer-in-DecideLog.ensures.fault (c.decide_log_named-decided.ensures.taken (unnamed c.in-DecideLog.request.file reads)) other)
 
 pub returns-in-Follow-clause-ends : goal.returns-in-Follow-clause-ends
 returns-in-Follow-clause-ends g c =

@@ -1,6 +1,8 @@
 //! Long certificates, orders and refutations, and the names of the axioms.
 
 use cert_check::{check, check_with_table};
+use log_order_check::check_log_order;
+use log_text::{Log, LogOperation, LoggedOperation};
 use order_check::{Axiom, OrderFault, check_order};
 use refutation_check::check_refutation;
 use std::alloc::{AllocError, Global};
@@ -133,6 +135,45 @@ fn eight_thousand_events(rt: HostRuntime) -> Result<(), Fail> {
     let trace = trace_from(alloc, &[], &rows)?;
     let order = loads_first(alloc)?;
     expect_equal(8_000, check_order(alloc, &trace, &order)?, Ok(()))
+}
+
+/// A thousand stores to an address of a value that repeats, and after each a load that read it.
+fn repeated_stores_and_loads(alloc: Global, a: u64) -> Result<Vec<LoggedOperation>, AllocError> {
+    let mut list = Vec::new(alloc);
+    for k in 0..1_000u64 {
+        let value = k % 2;
+        for operation in [
+            LogOperation::St { a, v: value },
+            LogOperation::Ld { a, r: value },
+        ] {
+            list.push(LoggedOperation { line: 1, operation })?;
+        }
+    }
+    Ok(list)
+}
+
+/// Four processors store two values to one address, and each load is forwarded the store before it.
+#[test]
+fn eight_thousand_events_of_a_log(rt: HostRuntime) -> Result<(), Fail> {
+    let alloc = rt.alloc();
+    let mut lists = Vec::new(alloc);
+    for _ in 0..4 {
+        lists.push(repeated_stores_and_loads(alloc, 1)?)?;
+    }
+    let log = Log {
+        order: Order::Tso,
+        first: Vec::new(alloc),
+        lists,
+        left_out: 0,
+    };
+    let mut order: Vec<usize> = Vec::new(alloc);
+    for number in loads_first(alloc)? {
+        order.push(number as usize)?;
+    }
+    expect_equal(8_000, check_log_order(alloc, &log, &order)?, Ok(()))?;
+    let shorter = order.get(..7_999).unwrap_or(&[]);
+    let less = check_log_order(alloc, &log, shorter)?;
+    expect_equal("less", less, Err(OrderFault::Missing(7_999)))
 }
 
 /// The names of the axioms, in the order in which they are looked at.

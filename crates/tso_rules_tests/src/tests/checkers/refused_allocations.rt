@@ -2,13 +2,15 @@
 //!
 //! The check that meets it answers OutOfMemory; the next check gives the ordinary answer.
 
+use log_order_check::check_log_order;
+use log_text::{Log, read_log};
 use order_check::{OrderFault, check_order};
 use refutation_check::check_refutation;
 use std::alloc::{AllocError, Global};
 use std::test::Fail;
 use traces_for_tests::{expect_equal, store_buffering};
 use tso_evidence::{Evidence, EvidenceTextFault, read_evidence};
-use tso_ops::{Trace, ValueFault};
+use tso_ops::{OutOfMemory, Trace, ValueFault};
 use tso_text::read_trace;
 
 const TRACE: &str =
@@ -61,4 +63,28 @@ fn refused_allocations_of_a_check_of_an_order(rt: HostRuntime) -> Result<(), Fai
         said = said_of_example(rt.alloc());
     }
     expect_equal("order_of_store_buffering", said, Ok(Ok(())))
+}
+
+const LOG: &str =
+    "model pso\ninit 7 5\n0 st 0 1\n0 stbar\n0 st 7 1\n0 mb\n0 sw 9 0 1\n1 ld 7 1\n1 ld 0 1\n1 st 7 1\n";
+
+/// The log, read once more where an allocation was refused.
+fn made_log(alloc: Global) -> Result<Log, tso_text::TextFault> {
+    match read_log(alloc, LOG.as_bytes(), false) {
+        Ok(log) => Ok(log),
+        Err(_) => read_log(alloc, LOG.as_bytes(), false),
+    }
+}
+
+/// Where an allocation is refused, the order of the log isn't checked; the next call checks it.
+#[test]
+fn refused_allocations_of_a_check_of_an_order_of_a_log(rt: HostRuntime) -> Result<(), Fail> {
+    let alloc = rt.alloc();
+    let log = made_log(alloc)?;
+    let order = [1, 2, 3, 4, 5, 6, 7];
+    let said = match check_log_order(alloc, &log, &order) {
+        Ok(said) => said,
+        Err(OutOfMemory) => check_log_order(alloc, &log, &order)?,
+    };
+    expect_equal("said", said, Ok(()))
 }

@@ -8,6 +8,7 @@ use tso_evidence::{print_evidence, read_evidence};
 use tso_text::{
     print_program, print_schedule, print_trace, read_program, read_schedule, read_trace,
 };
+use value_texts::{EventName, ValuePrintRefusal, print_log_evidence, read_log_evidence};
 
 /// What a text is read as.
 #[derive(Clone, Copy, Debug)]
@@ -17,6 +18,8 @@ pub(super) enum Kind {
     Schedule,
     Certificate,
     Evidence,
+    /// Evidence about a log.
+    LogEvidence,
     Log,
 }
 
@@ -29,6 +32,7 @@ pub(super) fn text_back(alloc: Global, kind: Kind, text: &str) -> Result<String,
         Kind::Schedule => schedule_back(alloc, text),
         Kind::Certificate => certificate_back(alloc, text),
         Kind::Evidence => evidence_back(alloc, text),
+        Kind::LogEvidence => log_evidence_back(alloc, text),
         Kind::Log => log_back(alloc, text),
     }
 }
@@ -67,6 +71,40 @@ fn evidence_back(alloc: Global, text: &str) -> Result<String, AllocError> {
             let mut printed = String::new(alloc);
             print_evidence(&mut printed, &evidence)?;
             Ok(printed)
+        }
+        Err(fault) => format!(in alloc; "{fault}"),
+    }
+}
+
+/// The names of a store of line 3, of a load of line 4, and of a swap of line 7.
+static NAMES: [EventName; 4] = [
+    EventName {
+        line: 3,
+        is_swap_store: false,
+    },
+    EventName {
+        line: 4,
+        is_swap_store: false,
+    },
+    EventName {
+        line: 7,
+        is_swap_store: false,
+    },
+    EventName {
+        line: 7,
+        is_swap_store: true,
+    },
+];
+
+fn log_evidence_back(alloc: Global, text: &str) -> Result<String, AllocError> {
+    match read_log_evidence(alloc, &NAMES, text.as_bytes()) {
+        Ok(evidence) => {
+            let mut printed = String::new(alloc);
+            match print_log_evidence(&mut printed, &NAMES, &evidence) {
+                Ok(()) => Ok(printed),
+                Err(ValuePrintRefusal::NoEvent) => String::from_str(alloc, "NoEvent"),
+                Err(ValuePrintRefusal::OutOfMemory) => Err(AllocError),
+            }
         }
         Err(fault) => format!(in alloc; "{fault}"),
     }

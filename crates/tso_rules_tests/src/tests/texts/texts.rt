@@ -49,7 +49,7 @@ fn long_texts(rt: HostRuntime) -> Result<(), Fail> {
 }
 
 /// A text of each kind, of which each allocation is refused in turn, and what it gives.
-static AGAIN: [Case; 12] = [
+static AGAIN: [Case; 15] = [
     (
         Kind::Trace,
         "tso trace 1\nproc\nst 1 1\nld 2 0\nproc\nst 2 2\nmb\nsw 1 0 3\nend\n",
@@ -83,6 +83,17 @@ static AGAIN: [Case; 12] = [
         Kind::Evidence,
         "1 init 1 Init\n2 1 init LoadPast 4 1 2 3 4 5 6\ncycle 1 2\n3 1 2 Elsewhere\n",
         "BadRule line 4",
+    ),
+    (Kind::LogEvidence, "order 7 7' 4 3\n", ""),
+    (
+        Kind::LogEvidence,
+        "case-read 4 7'\nin 3 4\nnosource 4\nelse\ncase-before 3 7\ncycle 3\nelse\nover 3 7' 4\ncycle 7'\n",
+        "",
+    ),
+    (
+        Kind::LogEvidence,
+        "case-before 3 4\ncycle 3\nelse\ncase-read 4 5\n",
+        "NoEvent line 4",
     ),
     (
         Kind::Log,

@@ -4,17 +4,17 @@ use Rattle.command_line.proofs.FoundLemmas.{of_batch, of_draw, of_log, of_replay
 use Rattle.command_line.proofs.subcommands.Subcommand.request.Goals as goal
 
 pub returns-in-Log-clause-workers : goal.returns-in-Log-clause-workers
-returns-in-Log-clause-workers c = of_request HasWorkers _ (of_log HasWorkers tt (λ file options some most effort max_unknown. tt) (rows_of (found_of c.args.matches.now))) _ c.log.ensures
+returns-in-Log-clause-workers c = of_request HasWorkers _ (of_log HasWorkers tt (λ file options some most effort max_unknown. tt) (λ file effort needs_end. tt) (rows_of (found_of c.args.matches.now))) _ c.log.ensures
 
 pub returns-in-Log-clause-unit : goal.returns-in-Log-clause-unit
-returns-in-Log-clause-unit c = of_request HasUnitRanges _ (of_log HasUnitRanges tt (λ file options some most effort max_unknown. tt) (rows_of (found_of c.args.matches.now))) _ c.log.ensures
+returns-in-Log-clause-unit c = of_request HasUnitRanges _ (of_log HasUnitRanges tt (λ file options some most effort max_unknown. tt) (λ file effort needs_end. tt) (rows_of (found_of c.args.matches.now))) _ c.log.ensures
 
 pub returns-in-Log-clause-turns : goal.returns-in-Log-clause-turns
-returns-in-Log-clause-turns c = of_request HasDrainTurns _ (of_log HasDrainTurns tt (λ file options some most effort max_unknown. tt) (rows_of (found_of c.args.matches.now))) _ c.log.ensures
+returns-in-Log-clause-turns c = of_request HasDrainTurns _ (of_log HasDrainTurns tt (λ file options some most effort max_unknown. tt) (λ file effort needs_end. tt) (rows_of (found_of c.args.matches.now))) _ c.log.ensures
 
 pub returns-in-Log-clause-log : goal.returns-in-Log-clause-log
 returns-in-Log-clause-log c =
-    of_request HasLogRanges _ (of_log HasLogRanges tt (λ file options some most effort max_unknown. (some, most, effort, max_unknown)) (rows_of (found_of c.args.matches.now))) _ c.log.ensures
+    of_request HasLogRanges _ (of_log HasLogRanges tt (λ file options some most effort max_unknown. (some, most, effort, max_unknown)) (λ file effort needs_end. tt) (rows_of (found_of c.args.matches.now))) _ c.log.ensures
 
 pub returns-in-Log-clause-asked : goal.returns-in-Log-clause-asked
 returns-in-Log-clause-asked c = rw c.in-Log.is c.log.ensures
@@ -52,7 +52,7 @@ pub returns-in-Run-clause-asked : goal.returns-in-Run-clause-asked
 returns-in-Run-clause-asked c = rw c.in-Run.is c.run.ensures
 
 pub returns-in-Log-clause-input : goal.returns-in-Log-clause-input
-returns-in-Log-clause-input c = of_request HasOneInput _ (of_log HasOneInput tt (λ file options some most effort max_unknown. tt) (rows_of (found_of c.args.matches.now))) _ c.log.ensures
+returns-in-Log-clause-input c = of_request HasOneInput _ (of_log HasOneInput tt (λ file options some most effort max_unknown. tt) (λ file effort needs_end. tt) (rows_of (found_of c.args.matches.now))) _ c.log.ensures
 
 pub returns-in-Replay-clause-input : goal.returns-in-Replay-clause-input
 returns-in-Replay-clause-input c =

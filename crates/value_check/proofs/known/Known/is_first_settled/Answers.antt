@@ -82,12 +82,14 @@ returns-in-UpTo c = λ t steps known seen load.
       | inr path ↦ let above = event_above_zero t 0 (path_events t steps known.events 0 (suc c.in-UpTo.field-0) path).0 in omega arith
     ])
 
-pub returns-in-Nothing : goal.returns-in-Nothing
-returns-in-Nothing c = λ t steps known seen load.
+pub returns-in-SetAside : goal.returns-in-SetAside
+returns-in-SetAside c = λ t steps known seen load.
     let l = c.args.question.now.load in
     let below = index_below t c.args.self.now known.tables l (load.0, load.1) in
     let can = first_left t steps known.events (suc l) load ((known.tables.first l below).0 (sym c.has_first_value.ensures ∙ c.if-not-has_first_value.false))
     (nothing_seen t steps l c.args.question.now.seen.items seen (omega arith))
     (not_so c.is_first_taken.result (IsTaken t steps (suc l) 0) (c.is_first_taken.ensures t steps known) c.if-is_first_taken.false)
-    (not_so c.read_another.result ((s : ℕ) × Contains steps (Read (suc l) s) × (s ≢ 0)) (c.read_another.ensures t steps known below) c.if-read_another.false) in
-    refuses (λ all. subst (λ d. Meets t steps (suc l) d 0) c.in-Nothing.is (all can))
+    (not_so c.read_another.result ((s : ℕ) × Contains steps (Read (suc l) s) × (s ≢ 0)) (c.read_another.ensures t steps known below) c.if-read_another.false) in (
+      λ is can. subst (λ d. Meets t steps (suc l) d 0) (sym c.in-SetAside.is) (subst (λ ns. Contains ns 0) c.deref.ensures.value (c.is_one_of.ensures.0 is)),
+      λ all. c.is_one_of.ensures.1 (subst (λ ns. Contains ns 0) (sym c.deref.ensures.value) (subst (λ d. Meets t steps (suc l) d 0) c.in-SetAside.is (all can))),
+    )

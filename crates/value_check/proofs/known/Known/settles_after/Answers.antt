@@ -54,10 +54,10 @@ returns-in-UpTo c = λ t steps known.
       | inr led ↦ subst (λ d. IsLedTo t steps d (suc c.args.store)) c.in-UpTo.is led
     ])
 
-pub returns-in-Nothing : goal.returns-in-Nothing
-returns-in-Nothing c = λ t steps known.
+pub returns-in-SetAside : goal.returns-in-SetAside
+returns-in-SetAside c = λ t steps known.
     let none = not_so c.leads.result (Leads c.args.self.now.reach c.args.question.now.load c.args.store) c.leads.ensures c.if-leads.false in
     refuses (λ settles. elim settles.1 [
       | inl path ↦ none ((known.leads c.args.question.now.load c.args.store).1 path)
-      | inr led ↦ subst (λ d. IsLedTo t steps d (suc c.args.store)) c.in-Nothing.is led
+      | inr led ↦ subst (λ d. IsLedTo t steps d (suc c.args.store)) c.in-SetAside.is led
     ])

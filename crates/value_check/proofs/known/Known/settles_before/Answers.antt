@@ -36,7 +36,7 @@ returns-in-After c = λ t steps known seen.
     let none = not_so c.is_over.result (IsOver t steps (suc c.args.question.now.load) (suc c.args.store)) (c.is_over.ensures t steps known seen) c.if-is_over.false in
     refuses (λ settles. elim settles [ inl over ↦ none over | inr led ↦ subst (λ d. IsLedOn t steps d (suc c.args.store)) c.in-After.is led ])
 
-pub returns-in-Nothing : goal.returns-in-Nothing
-returns-in-Nothing c = λ t steps known seen.
+pub returns-in-SetAside : goal.returns-in-SetAside
+returns-in-SetAside c = λ t steps known seen.
     let none = not_so c.is_over.result (IsOver t steps (suc c.args.question.now.load) (suc c.args.store)) (c.is_over.ensures t steps known seen) c.if-is_over.false in
-    refuses (λ settles. elim settles [ inl over ↦ none over | inr led ↦ subst (λ d. IsLedOn t steps d (suc c.args.store)) c.in-Nothing.is led ])
+    refuses (λ settles. elim settles [ inl over ↦ none over | inr led ↦ subst (λ d. IsLedOn t steps d (suc c.args.store)) c.in-SetAside.is led ])

@@ -1,0 +1,11 @@
+pub mod BoundFacts
+pub mod EventFacts
+pub mod MostFacts
+pub mod OwnFacts
+pub mod PassedFacts
+pub mod PlaceFacts
+pub mod ProcessorFacts
+pub mod ProgressFacts
+pub mod ReadFacts
+pub mod TableFacts
+pub mod UnmetFacts
