@@ -16,4 +16,4 @@ ascii_repeated tag ascii =
     rw valid refl
 
 pub all_repeated : (bytes : List ℕ) (log : NumberedLog) (tags : LineTags) → SpellsLog bytes log → AreTagsOf bytes tags → (number : ℕ) → repeated (tag_in tags number) ≡ tag_at (parts_of bytes) number
-all_repeated bytes log tags spells are number = ap repeated (are number) ∙ ascii_repeated (tag_at (parts_of bytes) number) (tags_ascii bytes log spells number)
+all_repeated bytes log tags spells are number = ap repeated (are.tags number) ∙ ascii_repeated (tag_at (parts_of bytes) number) (tags_ascii bytes log spells number)

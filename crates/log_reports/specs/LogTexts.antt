@@ -7,7 +7,8 @@ use Rattle.line_text.specs.Lines.{is_empty}
 use Rattle.tso_ops.specs.declared.settings.Order.{Order}
 use Rattle.tso_text.specs.Printed.{trace_text}
 use Rattle.log_text.specs.LogValues.{NumberedLog}
-use Rattle.log_text.specs.Tags.{tag_in}
+use Rattle.log_text.specs.declared.tags.LineTags.{LineTags}
+use Rattle.log_text.specs.Origins.{line_of_number}
 use Rattle.log_selections.specs.declared.selecting.Selected.{Selected}
 use Rattle.log_selections.specs.declared.unwritten.LoggedStore.{LoggedStore}
 use Rattle.log_selections.specs.declared.unwritten.UnwrittenLoad.{UnwrittenLoad}
@@ -34,27 +35,28 @@ use Rattle.trace_reports.specs.declared.findings.Finding.{Finding}
 -- ---- violations
 
 -- the value of a store and its line, after a word
-abbrev pub store_text : List ℕ → LoggedStore → List ℕ
-store_text word s = word ++ decimal s.value ++ codes " line " ++ decimal s.line
+abbrev pub store_text : LineTags → List ℕ → LoggedStore → List ℕ
+store_text tags word s = word ++ decimal s.value ++ codes " line " ++ decimal (line_of_number tags.origins s.line)
 
 -- what was stored to the address of an unwritten load
-abbrev pub stored_text : UnwrittenLoad → List ℕ
-stored_text load = codes "stored " ++ decimal load.stores ++ option_map_or (store_text (codes " first ")) load.first [] ++ option_map_or (store_text (codes " last ")) load.last [] ++ codes "\n"
+abbrev pub stored_text : LineTags → UnwrittenLoad → List ℕ
+stored_text tags load =
+    codes "stored " ++ decimal load.stores ++ option_map_or (store_text tags (codes " first ")) load.first [] ++ option_map_or (store_text tags (codes " last ")) load.last [] ++ codes "\n"
 
 -- why lines have no order, of a log with so many processors
-abbrev pub selection_explained : ℕ → Selected → Finding → List ℕ
-selection_explained processors selected finding = explanation_by (naming_of_shown processors selected.shown.items) selected.trace finding.certificate ++ codes "\n"
+abbrev pub selection_explained : LineTags → ℕ → Selected → Finding → List ℕ
+selection_explained tags processors selected finding = explanation_by (naming_of_shown tags processors selected.shown.items) selected.trace finding.certificate ++ codes "\n"
 
 -- these words where something is so
 abbrev pub words_if : Bool → List ℕ → List ℕ
 words_if is words = cond is words []
 
 -- the lines of a violation, with these tags, and their explanation where one is asked for
-abbrev pub violation_text : Bool → (ℕ → List ℕ) → ℕ → LogViolation → List ℕ
+abbrev pub violation_text : Bool → LineTags → ℕ → LogViolation → List ℕ
 violation_text explains tags processors (Selection selected finding) =
-    log_lines_text tags selected.shown.items ++ words_if explains (selection_explained processors selected finding)
-violation_text explains tags processors (Unwritten load) = log_line_text tags load.shown ++ stored_text load
-violation_text explains tags processors (ByValues shown) = evidence_lines_text tags shown ++ words_if explains (evidence_sentences shown)
+    log_lines_text tags selected.shown.items ++ words_if explains (selection_explained tags processors selected finding)
+violation_text explains tags processors (Unwritten load) = log_line_text tags load.shown ++ stored_text tags load
+violation_text explains tags processors (ByValues shown) = evidence_lines_text tags shown ++ words_if explains (evidence_sentences tags shown)
 
 -- the texts of elements, each after a line with a word and its number, from this number on
 abbrev pub numbered_from : {X : Type 0} → (X → List ℕ) → List ℕ → ℕ → List X → List ℕ
@@ -73,8 +75,12 @@ sizes_text counts = joined (
 abbrev pub repeated_text : ℕ → List ℕ
 repeated_text repeated = cond (repeated == 0) [] (codes "repeated " ++ decimal repeated ++ codes "\n")
 
-abbrev pub counts_text : LogCounts → List ℕ
-counts_text counts = sizes_text counts ++ repeated_text counts.repeated
+-- how many lines were split into several pieces, where some were
+abbrev pub split_text : ℕ → List ℕ
+split_text split = cond (split == 0) [] (codes "split " ++ decimal split ++ codes "\n")
+
+abbrev pub counts_text : LineTags → LogCounts → List ℕ
+counts_text tags counts = sizes_text counts ++ split_text tags.origins.cut ++ repeated_text counts.repeated
 
 -- that the rest of the log wasn't judged, or what is no trace
 abbrev pub unsearched_text : LogFindings → List ℕ
@@ -107,10 +113,10 @@ total_text findings = cond (is_empty findings.violations.items) [] (count_text (
 -- the report, with explanations or without
 abbrev pub report_text : Bool → LogFound → List ℕ
 report_text explains found =
-    counts_text found.counts ++ verdict_text found
-    ++ numbered_from (violation_text explains (tag_in found.tags) found.counts.processors) (codes "violation ") 1 found.findings.violations.items
+    counts_text found.tags found.counts ++ verdict_text found
+    ++ numbered_from (violation_text explains found.tags found.counts.processors) (codes "violation ") 1 found.findings.violations.items
     ++ total_text found.findings
-    ++ numbered_from (λ shown. log_lines_text (tag_in found.tags) shown.items) (codes "unjudged ") 1 found.findings.unjudged.items
+    ++ numbered_from (λ shown. log_lines_text found.tags shown.items) (codes "unjudged ") 1 found.findings.unjudged.items
 
 -- the text of a violation's trace: of a load of what nothing wrote it is such a load alone; a violation by values has none
 abbrev pub violation_trace_text : Order → LogViolation → List ℕ

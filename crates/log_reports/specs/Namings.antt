@@ -9,7 +9,8 @@ use Rattle.tso_ops.specs.declared.operations.Part.TheVariants.{Whole, SwapLoad, 
 use Rattle.log_selections.specs.declared.shown.Shown.{Shown}
 use Rattle.trace_explanation.specs.Namings.{NamingValue}
 use Rattle.trace_explanation.specs.declared.subjects.Subject.TheVariants.{Log}
-use Rattle.log_reports.specs.Lines.{operation_text}
+use Rattle.log_text.specs.declared.tags.LineTags.{LineTags}
+use Rattle.log_reports.specs.Lines.{line_shown, operation_text}
 
 -- an event: its name, its processor, its line, and its address
 pub record EventName : Type 0 where
@@ -19,37 +20,37 @@ pub record EventName : Type 0 where
   pub address : ℕ
 
 -- the event of an operation at an address, which is this part of it
-abbrev pub event_of : Shown → ℕ → List ℕ → EventName
-event_of s a part = record {
-  name = codes "P" ++ decimal s.processor ++ codes " '" ++ operation_text s.logged.operation ++ codes "'" ++ part ++ codes " (line " ++ decimal s.logged.line ++ codes ")";
+abbrev pub event_of : LineTags → Shown → ℕ → List ℕ → EventName
+event_of tags s a part = record {
+  name = codes "P" ++ decimal s.processor ++ codes " '" ++ operation_text s.logged.operation ++ codes "'" ++ part ++ codes " (line " ++ decimal (line_shown tags s) ++ codes ")";
   processor = s.processor;
-  line = s.logged.line;
+  line = line_shown tags s;
   address = a;
 }
 
 -- the events of a swap of which this counts
-abbrev pub swap_events : Shown → ℕ → Part → List EventName
-swap_events s a Whole = event_of s a (codes " load") ∷ event_of s a (codes " store") ∷ []
-swap_events s a SwapLoad = event_of s a (codes " load") ∷ []
-swap_events s a SwapStore = event_of s a (codes " store") ∷ []
+abbrev pub swap_events : LineTags → Shown → ℕ → Part → List EventName
+swap_events tags s a Whole = event_of tags s a (codes " load") ∷ event_of tags s a (codes " store") ∷ []
+swap_events tags s a SwapLoad = event_of tags s a (codes " load") ∷ []
+swap_events tags s a SwapStore = event_of tags s a (codes " store") ∷ []
 
 -- the events of an operation
-abbrev pub events_by : Shown → LogOperation → List EventName
-events_by s (Ld a r) = event_of s a [] ∷ []
-events_by s (St a v) = event_of s a [] ∷ []
-events_by s (Sw a r v) = swap_events s a s.part
-events_by s Mb = []
-events_by s Sb = []
+abbrev pub events_by : LineTags → Shown → LogOperation → List EventName
+events_by tags s (Ld a r) = event_of tags s a [] ∷ []
+events_by tags s (St a v) = event_of tags s a [] ∷ []
+events_by tags s (Sw a r v) = swap_events tags s a s.part
+events_by tags s Mb = []
+events_by tags s Sb = []
 
 -- those of processor p, in program order
-abbrev pub event_names_of : List Shown → ℕ → List EventName
-event_names_of shown p = flat_map (λ s. events_by s s.logged.operation) (filter (λ s. s.processor == p) shown)
+abbrev pub event_names_of : LineTags → List Shown → ℕ → List EventName
+event_names_of tags shown p = flat_map (λ s. events_by tags s s.logged.operation) (filter (λ s. s.processor == p) shown)
 
 -- those of each of so many processors, in the order that they have in a trace
-abbrev pub named_events : ℕ → List Shown → List EventName
-named_events processors shown = flat_map (event_names_of shown) (range_with_len 0 processors)
+abbrev pub named_events : LineTags → ℕ → List Shown → List EventName
+named_events tags processors shown = flat_map (event_names_of tags shown) (range_with_len 0 processors)
 
-abbrev pub naming_of_shown : ℕ → List Shown → NamingValue
-naming_of_shown processors shown =
-    let events = named_events processors shown in
+abbrev pub naming_of_shown : LineTags → ℕ → List Shown → NamingValue
+naming_of_shown tags processors shown =
+    let events = named_events tags processors shown in
     record { subject = Log; names = map (λ e. e.name) events; processors = map (λ e. e.processor) events; lines = map (λ e. e.line) events; addresses = map (λ e. e.address) events }

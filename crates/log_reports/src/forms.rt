@@ -26,7 +26,7 @@ pub struct LogFound {
     pub counts: LogCounts,
     /// What was found in it.
     pub findings: LogFindings,
-    /// The tags of its lines.
+    /// The tags of its lines, and from which of them its operations come.
     pub tags: LineTags,
 }
 

@@ -5,7 +5,7 @@ ghost use Rattle.log_reports.specs.Namings.{EventName, event_names_of, event_of,
 
 use crate::lines::push_operation;
 use log_selections::Shown;
-use log_text::LogOperation;
+use log_text::{LineTags, LogOperation};
 use std::alloc::{AllocError, Global};
 use std::fmt::Write;
 use trace_explanation::EventNames;
@@ -24,10 +24,11 @@ struct NamedEvents {
 /// refused.
 pub(crate) fn name_events(
     alloc: Global,
+    tags: &LineTags,
     processors: usize,
     shown: &[Shown],
 ) -> Result<EventNames, AllocError>
-    ensures { IfOk result (λ names. names ≡ naming_of_shown processors shown.now) }
+    ensures { IfOk result (λ names. names ≡ naming_of_shown tags.now processors shown.now) }
 {
     let mut named = NamedEvents {
         names: Vec::new(alloc),
@@ -36,58 +37,84 @@ pub(crate) fn name_events(
         addresses: Vec::new(alloc),
     };
     for p in 0..processors {
-        named.push_processor(alloc, shown, p)?;
+        named.push_processor(alloc, tags, shown, p)?;
     }
     Ok(EventNames::of_log(named.names, named.processors, named.lines, named.addresses))
 }
 
 impl NamedEvents {
     /// Appends the events of processor `p`.
-    fn push_processor(&mut self, alloc: Global, shown: &[Shown], p: usize) -> Result<(), AllocError>
-        ensures { OnOk result ((events : List EventName) → AreNames self.old events → AreNames self.new (events ++ event_names_of shown.now p)) }
+    fn push_processor(
+        &mut self,
+        alloc: Global,
+        tags: &LineTags,
+        shown: &[Shown],
+        p: usize,
+    ) -> Result<(), AllocError>
+        ensures { OnOk result ((events : List EventName) → AreNames self.old events → AreNames self.new (events ++ event_names_of tags.now shown.now p)) }
     {
         for s in shown {
             if s.processor == p {
-                self.push_shown(alloc, s)?;
+                self.push_shown(alloc, tags, s)?;
             }
         }
         Ok(())
     }
 
     /// Appends the events of an operation.
-    fn push_shown(&mut self, alloc: Global, shown: &Shown) -> Result<(), AllocError>
+    fn push_shown(
+        &mut self,
+        alloc: Global,
+        tags: &LineTags,
+        shown: &Shown,
+    ) -> Result<(), AllocError>
         ensures { OnOk result ((events : List EventName) → AreNames self.old events →
-            AreNames self.new (events ++ events_by shown.now shown.now.logged.operation)) }
+            AreNames self.new (events ++ events_by tags.now shown.now shown.now.logged.operation)) }
     {
         match shown.logged.operation {
             LogOperation::Ld { a, .. } | LogOperation::St { a, .. } => {
-                self.push(alloc, shown, a, "")
+                self.push(alloc, tags, shown, a, "")
             }
-            LogOperation::Sw { a, .. } => self.push_swap(alloc, shown, a),
+            LogOperation::Sw { a, .. } => self.push_swap(alloc, tags, shown, a),
             LogOperation::Mb | LogOperation::Sb => Ok(()),
         }
     }
 
     /// Appends the events of a swap.
-    fn push_swap(&mut self, alloc: Global, shown: &Shown, a: u64) -> Result<(), AllocError>
-        ensures { OnOk result ((events : List EventName) → AreNames self.old events → AreNames self.new (events ++ swap_events shown.now a shown.now.part)) }
+    fn push_swap(
+        &mut self,
+        alloc: Global,
+        tags: &LineTags,
+        shown: &Shown,
+        a: u64,
+    ) -> Result<(), AllocError>
+        ensures { OnOk result ((events : List EventName) → AreNames self.old events →
+            AreNames self.new (events ++ swap_events tags.now shown.now a shown.now.part)) }
     {
         match shown.part {
             Part::Whole => {
-                self.push(alloc, shown, a, " load")?;
-                self.push(alloc, shown, a, " store")
+                self.push(alloc, tags, shown, a, " load")?;
+                self.push(alloc, tags, shown, a, " store")
             }
-            Part::SwapLoad => self.push(alloc, shown, a, " load"),
-            Part::SwapStore => self.push(alloc, shown, a, " store"),
+            Part::SwapLoad => self.push(alloc, tags, shown, a, " load"),
+            Part::SwapStore => self.push(alloc, tags, shown, a, " store"),
         }
     }
 
     /// Appends an event of an operation at address `a`, which is this part of it.
-    fn push(&mut self, alloc: Global, shown: &Shown, a: u64, part: &str) -> Result<(), AllocError>
-        ensures { OnOk result ((events : List EventName) → AreNames self.old events → AreNames self.new (events ++ event_of shown.now a part.now ∷ [])) }
+    fn push(
+        &mut self,
+        alloc: Global,
+        tags: &LineTags,
+        shown: &Shown,
+        a: u64,
+        part: &str,
+    ) -> Result<(), AllocError>
+        ensures { OnOk result ((events : List EventName) → AreNames self.old events →
+            AreNames self.new (events ++ event_of tags.now shown.now a part.now ∷ [])) }
     {
         let processor = shown.processor;
-        let line = shown.logged.line;
+        let line = tags.origins.line(shown.logged.line);
         let mut name = format!(in alloc; "P{processor} '")?;
         push_operation(&mut name, shown.logged.operation)?;
         write!(name, "'{part} (line {line})")?;

@@ -4,6 +4,7 @@ use crate::findings::LogViolation;
 use crate::forms::LogFound;
 use crate::rendering::push_gaps;
 use log_selections::Shown;
+use log_text::LineTags;
 use request_options::LogForm;
 use std::alloc::{AllocError, Global};
 use std::fmt::Write;
@@ -16,7 +17,7 @@ pub(crate) fn render_notes(alloc: Global, found: &LogFound) -> Result<String, Ou
     let mut text = String::new(alloc);
     match found.options.form {
         LogForm::Lines | LogForm::Explained => {}
-        LogForm::Traces => push_origins(&mut text, &findings.violations)?,
+        LogForm::Traces => push_origins(&mut text, &found.tags, &findings.violations)?,
         LogForm::Evidence => push_without_evidence(&mut text, &findings.violations)?,
     }
     push_note(
@@ -75,17 +76,21 @@ fn push_without_evidence(text: &mut String, violations: &[LogViolation]) -> Resu
 
 /// Appends a line for each trace, with the numbers of its lines in the log: `trace 1 line 12 40`; and then how many violations have
 /// none.
-fn push_origins(text: &mut String, violations: &[LogViolation]) -> Result<(), AllocError> {
+fn push_origins(
+    text: &mut String,
+    tags: &LineTags,
+    violations: &[LogViolation],
+) -> Result<(), AllocError> {
     let mut traces: usize = 0;
     for violation in violations {
         match violation {
             LogViolation::Selection { selected, .. } => {
                 traces = traces.saturating_add(1);
-                push_origin(text, traces, &selected.shown)?;
+                push_origin(text, tags, traces, &selected.shown)?;
             }
             LogViolation::Unwritten(load) => {
                 traces = traces.saturating_add(1);
-                push_origin(text, traces, &[load.shown])?;
+                push_origin(text, tags, traces, &[load.shown])?;
             }
             LogViolation::ByValues(_) => {}
         }
@@ -95,16 +100,21 @@ fn push_origins(text: &mut String, violations: &[LogViolation]) -> Result<(), Al
 }
 
 /// Appends a line for the trace of this number, with the numbers of its lines in the log.
-fn push_origin(text: &mut String, number: usize, shown: &[Shown]) -> Result<(), AllocError> {
+fn push_origin(
+    text: &mut String,
+    tags: &LineTags,
+    number: usize,
+    shown: &[Shown],
+) -> Result<(), AllocError> {
     write!(text, "trace {number} line")?;
-    push_numbers(text, shown)?;
+    push_numbers(text, tags, shown)?;
     text.push_str("\n")
 }
 
 /// Appends the numbers of these lines, each after a space.
-fn push_numbers(text: &mut String, shown: &[Shown]) -> Result<(), AllocError> {
+fn push_numbers(text: &mut String, tags: &LineTags, shown: &[Shown]) -> Result<(), AllocError> {
     for one in shown {
-        let line = one.logged.line;
+        let line = tags.origins.line(one.logged.line);
         write!(text, " {line}")?;
     }
     Ok(())

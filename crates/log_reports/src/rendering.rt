@@ -1,9 +1,8 @@
 //! The text of what is found in a log.
 ghost use Rattle.std.specs.Prelude.{◌≡◌, ◌++◌, [], IfOk, OnOk, codes, string_bytes};
 ghost use Rattle.std.specs.Option.{option_map_or};
-ghost use Rattle.log_text.specs.Tags.{tag_in};
 ghost use Rattle.log_reports.specs.Lines.{log_lines_text};
-ghost use Rattle.log_reports.specs.LogTexts.{count_text, counts_text, found_text, gaps_text, numbered_from, repeated_text, report_text, selection_explained, sizes_text, store_text, stored_text, total_text, unknown_text, unsearched_text, verdict_text, violation_text, violation_trace_text, violation_traces_text, words_if};
+ghost use Rattle.log_reports.specs.LogTexts.{count_text, counts_text, found_text, gaps_text, numbered_from, repeated_text, report_text, selection_explained, sizes_text, split_text, store_text, stored_text, total_text, unknown_text, unsearched_text, verdict_text, violation_text, violation_trace_text, violation_traces_text, words_if};
 
 use crate::counts::LogCounts;
 use crate::findings::{LogFindings, LogViolation};
@@ -30,7 +29,7 @@ pub(crate) fn render_report(
 {
     let findings = &found.findings;
     let processors = found.counts.processors;
-    let mut text = render_counts(alloc, found.counts)?;
+    let mut text = render_counts(alloc, &found.tags, found.counts)?;
     push_verdict(&mut text, found)?;
     push_numbered(
         alloc,
@@ -46,10 +45,11 @@ pub(crate) fn render_report(
 }
 
 /// The first lines.
-fn render_counts(alloc: Global, counts: LogCounts) -> Result<String, AllocError>
-    ensures { IfOk result (λ text. string_bytes text ≡ counts_text counts) }
+fn render_counts(alloc: Global, tags: &LineTags, counts: LogCounts) -> Result<String, AllocError>
+    ensures { IfOk result (λ text. string_bytes text ≡ counts_text tags.now counts) }
 {
     let mut text = render_sizes(alloc, counts)?;
+    push_split(&mut text, tags.origins.cut_lines())?;
     push_repeated(&mut text, counts.repeated)?;
     Ok(text)
 }
@@ -73,6 +73,16 @@ fn render_sizes(alloc: Global, counts: LogCounts) -> Result<String, AllocError>
         "TSO LOG 1\nprocessors {processors} operations {operations} loads {loads} unknown {unknown} left {left_out}\n"
     )?;
     Ok(text)
+}
+
+/// Appends how many lines were split into several pieces, where some were.
+fn push_split(text: &mut String, split: usize) -> Result<(), AllocError>
+    ensures { OnOk result (string_bytes text.new ≡ string_bytes text.old ++ split_text split) }
+{
+    if split == 0 {
+        return Ok(());
+    }
+    write!(text, "split {split}\n")
 }
 
 /// Appends how many loads were passed over, where some were.
@@ -177,7 +187,7 @@ fn push_numbered(
     processors: usize,
     violations: &[LogViolation],
 ) -> Result<(), AllocError>
-    ensures { OnOk result (string_bytes text.new ≡ string_bytes text.old ++ numbered_from (violation_text explains (tag_in tags.now) processors)
+    ensures { OnOk result (string_bytes text.new ≡ string_bytes text.old ++ numbered_from (violation_text explains tags.now processors)
         (codes "violation ") 1 violations.now) }
 {
     for (k, violation) in violations.iter().enumerate() {
@@ -197,24 +207,24 @@ fn push_violation(
     processors: usize,
     violation: &LogViolation,
 ) -> Result<(), AllocError>
-    ensures { OnOk result (string_bytes text.new ≡ string_bytes text.old ++ violation_text explains (tag_in tags.now) processors violation.now) }
+    ensures { OnOk result (string_bytes text.new ≡ string_bytes text.old ++ violation_text explains tags.now processors violation.now) }
 {
     match violation {
         LogViolation::Selection { selected, finding } => {
             push_lines(text, tags, &selected.shown)?;
             if explains {
-                push_explanation(alloc, text, processors, selected, finding)?;
+                push_explanation(alloc, text, tags, processors, selected, finding)?;
             }
             Ok(())
         }
         LogViolation::Unwritten(load) => {
             push_line(text, tags, &load.shown)?;
-            push_stored(text, load)
+            push_stored(text, tags, load)
         }
         LogViolation::ByValues(shown) => {
             push_evidence_lines(text, tags, shown)?;
             if explains {
-                push_evidence_sentences(text, shown)?;
+                push_evidence_sentences(text, tags, shown)?;
             }
             Ok(())
         }
@@ -225,35 +235,41 @@ fn push_violation(
 fn push_explanation(
     alloc: Global,
     text: &mut String,
+    tags: &LineTags,
     processors: usize,
     selected: &Selected,
     finding: &Finding,
 ) -> Result<(), AllocError>
-    ensures { OnOk result (string_bytes text.new ≡ string_bytes text.old ++ selection_explained processors selected.now finding.now) }
+    ensures { OnOk result (string_bytes text.new ≡ string_bytes text.old ++ selection_explained tags.now processors selected.now finding.now) }
 {
-    let names = name_events(alloc, processors, &selected.shown)?;
+    let names = name_events(alloc, tags, processors, &selected.shown)?;
     explain_named(alloc, text, &selected.trace, &finding.certificate, &names)?;
     text.push_str("\n")
 }
 
 /// Appends what was stored to the address of an unwritten load.
-fn push_stored(text: &mut String, load: &UnwrittenLoad) -> Result<(), AllocError>
-    ensures { OnOk result (string_bytes text.new ≡ string_bytes text.old ++ stored_text load.now) }
+fn push_stored(text: &mut String, tags: &LineTags, load: &UnwrittenLoad) -> Result<(), AllocError>
+    ensures { OnOk result (string_bytes text.new ≡ string_bytes text.old ++ stored_text tags.now load.now) }
 {
     let stores = load.stores;
     write!(text, "stored {stores}")?;
-    push_store(text, " first ", load.first)?;
-    push_store(text, " last ", load.last)?;
+    push_store(text, tags, " first ", load.first)?;
+    push_store(text, tags, " last ", load.last)?;
     text.push_str("\n")
 }
 
 /// Appends the value and the line of a store, where there is one, after a word.
-fn push_store(text: &mut String, word: &str, store: Option<LoggedStore>) -> Result<(), AllocError>
-    ensures { OnOk result (string_bytes text.new ≡ string_bytes text.old ++ option_map_or (store_text word.now) store []) }
+fn push_store(
+    text: &mut String,
+    tags: &LineTags,
+    word: &str,
+    store: Option<LoggedStore>,
+) -> Result<(), AllocError>
+    ensures { OnOk result (string_bytes text.new ≡ string_bytes text.old ++ option_map_or (store_text tags.now word.now) store []) }
 {
     if let Some(store) = store {
         let value = store.value;
-        let line = store.line;
+        let line = tags.origins.line(store.line);
         write!(text, "{word}{value} line {line}")?;
     }
     Ok(())
@@ -265,7 +281,7 @@ fn push_unjudged(
     tags: &LineTags,
     unjudged: &[Vec<Shown>],
 ) -> Result<(), AllocError>
-    ensures { OnOk result (string_bytes text.new ≡ string_bytes text.old ++ numbered_from (λ shown. log_lines_text (tag_in tags.now) shown.items)
+    ensures { OnOk result (string_bytes text.new ≡ string_bytes text.old ++ numbered_from (λ shown. log_lines_text tags.now shown.items)
         (codes "unjudged ") 1 unjudged.now) }
 {
     for (k, shown) in unjudged.iter().enumerate() {

@@ -2,7 +2,6 @@
 ghost use Rattle.std.specs.Prelude.{◌≡◌, ◌++◌, IfOk, OnOk, string_bytes};
 ghost use Rattle.std.specs.List.{flat_map};
 ghost use Rattle.log_text.specs.LogValues.{log_value};
-ghost use Rattle.log_text.specs.Tags.{tag_in};
 ghost use Rattle.log_reports.specs.LogTexts.{violation_evidence_text, violation_evidence_texts};
 ghost use Rattle.log_reports.specs.ValueTexts.{cycle_sentence, eliminated_text, elimination_words, evidence_lines_text, evidence_sentences, value_read_words, source_found_text, source_words, sources_sentence, sources_text};
 
@@ -22,7 +21,7 @@ pub(crate) fn push_evidence_lines(
     tags: &LineTags,
     shown: &ShownEvidence,
 ) -> Result<(), AllocError>
-    ensures { OnOk result (string_bytes text.new ≡ string_bytes text.old ++ evidence_lines_text (tag_in tags.now) shown.now) }
+    ensures { OnOk result (string_bytes text.new ≡ string_bytes text.old ++ evidence_lines_text tags.now shown.now) }
 {
     text.push_str("by values\n")?;
     push_lines(text, tags, &shown.cycle)?;
@@ -31,7 +30,7 @@ pub(crate) fn push_evidence_lines(
 
 /// Appends loads with what eliminates their sources.
 fn push_loads(text: &mut String, tags: &LineTags, loads: &[ShownSources]) -> Result<(), AllocError>
-    ensures { OnOk result (string_bytes text.new ≡ string_bytes text.old ++ flat_map (sources_text (tag_in tags.now)) loads.now) }
+    ensures { OnOk result (string_bytes text.new ≡ string_bytes text.old ++ flat_map (sources_text tags.now) loads.now) }
 {
     for sources in loads {
         push_sources(text, tags, sources)?;
@@ -45,11 +44,11 @@ fn push_sources(
     tags: &LineTags,
     sources: &ShownSources,
 ) -> Result<(), AllocError>
-    ensures { OnOk result (string_bytes text.new ≡ string_bytes text.old ++ sources_text (tag_in tags.now) sources.now) }
+    ensures { OnOk result (string_bytes text.new ≡ string_bytes text.old ++ sources_text tags.now sources.now) }
 {
     push_line(text, tags, &sources.load)?;
     push_eliminated(text, sources)?;
-    push_source(text, sources.source)?;
+    push_source(text, tags, sources.source)?;
     push_lines(text, tags, &sources.before)?;
     push_lines(text, tags, &sources.after)
 }
@@ -71,53 +70,69 @@ fn push_eliminated(text: &mut String, sources: &ShownSources) -> Result<(), Allo
 }
 
 /// Appends what a load read.
-fn push_source(text: &mut String, source: ShownSource) -> Result<(), AllocError>
-    ensures { OnOk result (string_bytes text.new ≡ string_bytes text.old ++ source_found_text source) }
+fn push_source(text: &mut String, tags: &LineTags, source: ShownSource) -> Result<(), AllocError>
+    ensures { OnOk result (string_bytes text.new ≡ string_bytes text.old ++ source_found_text tags.now source) }
 {
     match source {
         ShownSource::Nothing => Ok(()),
         ShownSource::First => text.push_str("read init\n"),
-        ShownSource::Line(line) => write!(text, "read line {line}\n"),
+        ShownSource::Line(number) => {
+            let line = tags.origins.line(number);
+            write!(text, "read line {line}\n")
+        }
     }
 }
 
 /// Appends why there is no order, and an empty line.
 pub(crate) fn push_evidence_sentences(
     text: &mut String,
+    tags: &LineTags,
     shown: &ShownEvidence,
 ) -> Result<(), AllocError>
-    ensures { OnOk result (string_bytes text.new ≡ string_bytes text.old ++ evidence_sentences shown.now) }
+    ensures { OnOk result (string_bytes text.new ≡ string_bytes text.old ++ evidence_sentences tags.now shown.now) }
 {
-    push_sentences(text, &shown.loads)?;
+    push_sentences(text, tags, &shown.loads)?;
     push_cycle_sentence(text, shown)?;
     text.push_str("\n")
 }
 
 /// Appends why loads can't have read other stores.
-fn push_sentences(text: &mut String, loads: &[ShownSources]) -> Result<(), AllocError>
-    ensures { OnOk result (string_bytes text.new ≡ string_bytes text.old ++ flat_map sources_sentence loads.now) }
+fn push_sentences(
+    text: &mut String,
+    tags: &LineTags,
+    loads: &[ShownSources],
+) -> Result<(), AllocError>
+    ensures { OnOk result (string_bytes text.new ≡ string_bytes text.old ++ flat_map (sources_sentence tags.now) loads.now) }
 {
     for sources in loads {
-        push_sentence(text, sources)?;
+        push_sentence(text, tags, sources)?;
     }
     Ok(())
 }
 
 /// Appends why a load can't have read other stores.
-fn push_sentence(text: &mut String, sources: &ShownSources) -> Result<(), AllocError>
-    ensures { OnOk result (string_bytes text.new ≡ string_bytes text.old ++ sources_sentence sources.now) }
+fn push_sentence(
+    text: &mut String,
+    tags: &LineTags,
+    sources: &ShownSources,
+) -> Result<(), AllocError>
+    ensures { OnOk result (string_bytes text.new ≡ string_bytes text.old ++ sources_sentence tags.now sources.now) }
 {
-    push_value_read(text, sources)?;
+    push_value_read(text, tags, sources)?;
     push_elimination(text, sources)?;
-    push_source_words(text, sources.source)
+    push_source_words(text, tags, sources.source)
 }
 
 /// Appends what a load read.
 #[tactic(auto, unfolding(crate::specs::ValueTexts::value_read_words))]
-fn push_value_read(text: &mut String, sources: &ShownSources) -> Result<(), AllocError>
-    ensures { OnOk result (string_bytes text.new ≡ string_bytes text.old ++ value_read_words sources.now) }
+fn push_value_read(
+    text: &mut String,
+    tags: &LineTags,
+    sources: &ShownSources,
+) -> Result<(), AllocError>
+    ensures { OnOk result (string_bytes text.new ≡ string_bytes text.old ++ value_read_words tags.now sources.now) }
 {
-    let line = sources.load.logged.line;
+    let line = tags.origins.line(sources.load.logged.line);
     let value = sources.value;
     write!(text, "Line {line} read {value}. ")
 }
@@ -138,13 +153,20 @@ fn push_elimination(text: &mut String, sources: &ShownSources) -> Result<(), All
 }
 
 /// Appends the sentence on what a load read.
-fn push_source_words(text: &mut String, source: ShownSource) -> Result<(), AllocError>
-    ensures { OnOk result (string_bytes text.new ≡ string_bytes text.old ++ source_words source) }
+fn push_source_words(
+    text: &mut String,
+    tags: &LineTags,
+    source: ShownSource,
+) -> Result<(), AllocError>
+    ensures { OnOk result (string_bytes text.new ≡ string_bytes text.old ++ source_words tags.now source) }
 {
     match source {
         ShownSource::Nothing => text.push_str("So it can have read none of them.\n"),
         ShownSource::First => text.push_str("So it read the first value.\n"),
-        ShownSource::Line(line) => write!(text, "So it read line {line}.\n"),
+        ShownSource::Line(number) => {
+            let line = tags.origins.line(number);
+            write!(text, "So it read line {line}.\n")
+        }
     }
 }
 

@@ -12,7 +12,7 @@ use Rattle.log_text.specs.declared.lines.LogLine.TheVariants.{First}
 use Rattle.log_text.specs.LogTexts.{first_values}
 use Rattle.log_text.proofs.ReadingFacts.{first-push}
 
-inserted : (es : List (ℕ × ℕ)) (a v : ℕ) → first_value (insert_entry nat_cmp es a v) a ≡ v
+pub inserted : (es : List (ℕ × ℕ)) (a v : ℕ) → first_value (insert_entry nat_cmp es a v) a ≡ v
 inserted [] a v = let here : eqb a a ≡ true = grind (arith, nat_tests) in rw here refl
 inserted (e ∷ es) a v =
     ⊎_elim
@@ -32,7 +32,7 @@ inserted (e ∷ es) a v =
     (cases_eq e.0 a))
     (cases_lt a e.0)
 
-kept : (es : List (ℕ × ℕ)) (a v b : ℕ) → (b ≡ a → ⊥) → first_value (insert_entry nat_cmp es a v) b ≡ first_value es b
+pub kept : (es : List (ℕ × ℕ)) (a v b : ℕ) → (b ≡ a → ⊥) → first_value (insert_entry nat_cmp es a v) b ≡ first_value es b
 kept [] a v b differs = let off : eqb a b ≡ false = grind (arith, nat_tests) in rw off refl
 kept (e ∷ es) a v b differs =
     ⊎_elim

@@ -1,5 +1,9 @@
+pub mod CutFacts
 pub mod FirstFacts
 pub mod LeftOutFacts
+pub mod OriginFacts
+pub mod PieceFacts
 pub mod ReadingFacts
+pub mod SplitFacts
 pub mod TagFacts
 pub mod TextFacts

@@ -1,12 +1,13 @@
 -- Lemmas on the log that lines make, one line after another.
-use Rattle.std.proofs.Common.{◌≡◌, ℕ, suc, ◌+◌, ◌<◌, ◌||◌, Bool, true, false, eqb, cond, max, List, [], ◌∷◌, ◌++◌, length, get_or, set, map, Some, Result, Ok, Err, IfOk, refl, ap, sym, ◌∙◌, arith, append_assoc, ⊎_elim}
+use Rattle.std.proofs.Common.{◌≡◌, ℕ, suc, ◌+◌, ◌<◌, ◌||◌, Bool, true, false, eqb, cond, max, List, [], ◌∷◌, ◌++◌, length, get_or, set, map, Some, Result, Ok, Err, IfOk, refl, ap, sym, subst, ◌∙◌, arith, append_assoc, take, ⊎_elim}
 use Rattle.std.specs.Global.{Vec}
 use Rattle.std.specs.List.{count_by, flat_map, fold, list_any, range_with_len, sum_by}
 use Rattle.std.specs.Result.{is_ok, OnOk}
 use Rattle.std.proofs.Math.Bool.{or-false, or-true}
 use Rattle.std.proofs.lemmas.Bool.{cases_eq}
 use Rattle.std.proofs.lemmas.Bool.Decides.{nat_tests}
-use Rattle.std.proofs.lemmas.List.{append-nil, map-set, get_or_default, get_or-map, get_or-set_same, get_or-set_other, length-set, same_lists}
+use Rattle.std.proofs.lemmas.List.{append-nil, map-set, get_or_default, get_or-map, get_or-set_same, get_or-set_other, length-append, length-map, length-set, length-take-le, map-append, same_lists}
+use Rattle.std.proofs.Math.Seq.{take-suc}
 use Rattle.std.proofs.lemmas.List.Concat.{flat_map-append}
 use Rattle.std.proofs.lemmas.List.Folds.{list_any-append}
 use Rattle.std.proofs.lemmas.List.FromFn.{get_or-map-range_with_len, length-map-range_with_len}
@@ -17,15 +18,20 @@ use Rattle.tso_ops.specs.Values.{rows}
 use Rattle.tso_text.specs.declared.faults.Why.{Why}
 use Rattle.tso_text.specs.declared.faults.Why.TheVariants.{BadLine}
 use Rattle.log_text.specs.declared.lines.LogLine.{LogLine}
-use Rattle.log_text.specs.declared.lines.LogLine.TheVariants.{Issued}
+use Rattle.log_text.specs.declared.lines.LogLine.TheVariants.{Note, Pso, First, Issued, Unknown, Memory, End}
 use Rattle.log_text.specs.declared.logs.Log.{Log}
 use Rattle.log_text.specs.declared.logs.LogOperation.{LogOperation}
 use Rattle.log_text.specs.declared.logs.LoggedOperation.{LoggedOperation}
 use Rattle.log_text.specs.declared.readings.Reading.{Reading}
 use Rattle.log_text.specs.LogLines.{line_said}
-use Rattle.log_text.specs.LogTexts.{order_of, is_model, entries_in, first_values, with_first, unknown_in, issued_in, issued_from, is_end, is_step, is_telling, may_follow, processors_to, processors_in, fault_of_said, line_fault, is_operation_at, without_addresses, log_of_lines}
+use Rattle.run_lines.specs.declared.arguments.Widths.{Widths}
+use Rattle.log_text.specs.declared.lines.SaidLine.{SaidLine}
+use Rattle.log_text.specs.Internal.Cuts.{IsWithin}
+use Rattle.log_text.proofs.SplitFacts.{any_split, held_next, whole_line}
+use Rattle.log_text.specs.LogTexts.{lines_told, order_of, is_model, entries_in, first_values, with_first, unknown_in, issued_in, issued_from, is_end, is_step, is_telling, may_follow, processors_to, processors_in, fault_of_said, line_fault, is_operation_at, without_addresses, log_of_lines}
 use Rattle.log_text.specs.LogValues.{NumberedLog, log_value}
-use Rattle.log_text.specs.Internal.Readings.{Adds, HoldsLines, IsTextNext}
+use Rattle.log_text.specs.Splits.{address_in, line_on_piece, pieces, split_line}
+use Rattle.log_text.specs.Internal.Readings.{Adds, HoldsLines, HoldsSaid, HoldsStages, IsTextNext, split_at}
 
 -- ---- one more line
 
@@ -68,40 +74,115 @@ holds_next old new before number line holds numbered adds =
       count = adds.count ∙ ap (max (processors_to line)) holds.count ∙ sym (processors-push before line);
       lists = λ p. adds.lists p ∙ ap (λ xs. xs ++ issued_in p number line) (holds.lists p) ∙ ap (λ n. issued_from 1 before p ++ issued_in p n line) place ∙ sym (issued_from-push 1 before line p);
       unknown = adds.unknown ∙ ap (λ xs. xs ++ unknown_in line) holds.unknown ∙ sym (told-push unknown_in before line);
-      begun = adds.begun ∙ ap (λ b. b || is_telling line) holds.begun ∙ sym (any-push is_telling before line);
-      steps = adds.steps ∙ ap (λ b. b || is_step line) holds.steps ∙ sym (any-push is_step before line);
-      ended = adds.ended ∙ ap (λ b. b || is_end line) holds.ended ∙ sym (any-push is_end before line);
+      stages = record {
+        begun = adds.begun ∙ ap (λ b. b || is_telling line) holds.stages.begun ∙ sym (any-push is_telling before line);
+        steps = adds.steps ∙ ap (λ b. b || is_step line) holds.stages.steps ∙ sym (any-push is_step before line);
+        ended = adds.ended ∙ ap (λ b. b || is_end line) holds.stages.ended ∙ sym (any-push is_end before line);
+      };
     }
+
+-- one piece more
+pub holds_piece : (start old new : Reading) (before : List LogLine) (number next k : ℕ) (line : LogLine) (pieces : List (ℕ × ℕ)) (told : LogLine) (d : ℕ × ℕ) → k < length pieces →
+    next ≡ number + k → number ≡ suc (length before) → told ≡ line_on_piece line (get_or pieces k d) → HoldsLines old (before ++ map (line_on_piece line) (take k pieces)) → Adds old next told new →
+    HoldsLines new (before ++ map (line_on_piece line) (take (k + 1) pieces))
+holds_piece start old new before number next k line pieces told d inside placed numbered is holds adds =
+    let taken = take k pieces in
+    let next_k : k + 1 ≡ suc k = omega arith in
+    let more : take (k + 1) pieces ≡ taken ++ get_or pieces k d ∷ [] = ap (λ n. take n pieces) next_k ∙ take-suc pieces k d inside in
+    let lines : map (line_on_piece line) (take (k + 1) pieces) ≡ map (line_on_piece line) taken ++ told ∷ [] =
+    ap (map (line_on_piece line)) more ∙ map-append (line_on_piece line) taken (get_or pieces k d ∷ []) ∙ ap (λ l. map (line_on_piece line) taken ++ l ∷ []) (sym is) in
+    let count : next ≡ suc (length (before ++ map (line_on_piece line) taken)) =
+    omega (arith, placed, numbered, length-append before (map (line_on_piece line) taken), length-map taken (line_on_piece line), length-take-le k pieces (omega (arith, inside)), inside) in
+    subst (HoldsLines new) (append_assoc before (map (line_on_piece line) taken) (told ∷ []) ∙ ap (λ xs. before ++ xs) (sym lines))
+    (holds_next old new (before ++ map (line_on_piece line) taken) next told holds count adds)
+
+-- a line whose place has no width
+pub said_whole : (old new : Reading) (cuts : List ℕ) (before : List SaidLine) (s : SaidLine) (number next : ℕ) → s.width ≡ 0 → next ≡ number + 1 → HoldsSaid old cuts before number →
+    Adds old number s.line new → HoldsSaid new cuts (before ++ s ∷ []) next
+said_whole old new cuts before s number next none is holds adds =
+    let whole = whole_line cuts s none in
+    held_next new cuts before s number next holds.count (is ∙ ap (λ (ls : List LogLine). number + length ls) (sym whole))
+    (subst (λ ls. HoldsLines new (split_at cuts before ++ ls)) (sym whole) (holds_next old new (split_at cuts before) number s.line holds.holds holds.count adds))
+
+-- one that is taken piece by piece
+pub said_in_pieces : (old new : Reading) (cuts : List ℕ) (before : List SaidLine) (s : SaidLine) (number next : ℕ) (found : List (ℕ × ℕ)) →
+    found ≡ pieces cuts (address_in s.line) s.width → HoldsSaid old cuts before number →
+    ((lines : List LogLine) → HoldsLines old lines → number ≡ suc (length lines) → HoldsLines new (lines ++ map (line_on_piece s.line) found) × (next ≡ number + length found)) →
+    HoldsSaid new cuts (before ++ s ∷ []) next
+said_in_pieces old new cuts before s number next found is holds gives =
+    let done = gives (split_at cuts before) holds.holds holds.count in
+    let lines : map (line_on_piece s.line) found ≡ split_line cuts s = ap (map (line_on_piece s.line)) is in
+    let count : length found ≡ length (split_line cuts s) = sym (length-map found (line_on_piece s.line)) ∙ ap length lines in
+    held_next new cuts before s number next holds.count (done.1 ∙ ap (λ n. number + n) count) (subst (λ ls. HoldsLines new (split_at cuts before ++ ls)) lines done.0)
 
 -- ---- which line may be next
 
-module _ (old : Reading) (before : List LogLine) (holds : HoldsLines old before) where
-  -- after a line `end` none may
-  pub refused_at_end : (text : List ℕ) → old.is_ended ≡ true → line_fault before text ≡ Some BadLine
-  refused_at_end text is = by_said (line_said text)
-    where
-      some : list_any is_end before ≡ true
-      some = sym holds.ended ∙ is
+-- what the reading holds of the pieces of lines it holds of the lines
+pub stages_told : (reading : Reading) (boundaries : List ℕ) (lines : List SaidLine) (next : ℕ) → HoldsSaid reading boundaries lines next → HoldsStages reading (lines_told lines)
+stages_told reading boundaries lines next held = record {
+  begun = held.holds.stages.begun ∙ any_split is_telling telling boundaries lines;
+  steps = held.holds.stages.steps ∙ any_split is_step step boundaries lines;
+  ended = held.holds.stages.ended ∙ any_split is_end end boundaries lines;
+}
+  where
+    telling : (line : LogLine) (piece : ℕ × ℕ) → is_telling (line_on_piece line piece) ≡ is_telling line
+    telling Note piece = refl
+    telling Pso piece = refl
+    telling (First a v) piece = refl
+    telling (Issued p x) piece = refl
+    telling (Unknown p a) piece = refl
+    telling Memory piece = refl
+    telling End piece = refl
 
-      by_said : (said : Result LogLine Why) → fault_of_said before said ≡ Some BadLine
+    step : (line : LogLine) (piece : ℕ × ℕ) → is_step (line_on_piece line piece) ≡ is_step line
+    step Note piece = refl
+    step Pso piece = refl
+    step (First a v) piece = refl
+    step (Issued p x) piece = refl
+    step (Unknown p a) piece = refl
+    step Memory piece = refl
+    step End piece = refl
+
+    end : (line : LogLine) (piece : ℕ × ℕ) → is_end (line_on_piece line piece) ≡ is_end line
+    end Note piece = refl
+    end Pso piece = refl
+    end (First a v) piece = refl
+    end (Issued p x) piece = refl
+    end (Unknown p a) piece = refl
+    end Memory piece = refl
+    end End piece = refl
+
+module _ (old : Reading) (places : Widths) (boundaries : List ℕ) (before : List SaidLine) (number : ℕ) (holds : HoldsSaid old boundaries before number) where
+  stages : HoldsStages old (lines_told before)
+  stages = stages_told old boundaries before number holds
+
+  -- after a line `end` none may
+  pub refused_at_end : (text : List ℕ) → old.is_ended ≡ true → line_fault places before text ≡ Some BadLine
+  refused_at_end text is = by_said (line_said places text)
+    where
+      some : list_any is_end (lines_told before) ≡ true
+      some = sym stages.ended ∙ is
+
+      by_said : (said : Result SaidLine Why) → fault_of_said (lines_told before) said ≡ Some BadLine
       by_said (Err why) = rw some refl
       by_said (Ok line) = rw some refl
 
   module _ (text : List ℕ) (unended : old.is_ended ≡ false) where
-    none : list_any is_end before ≡ false
-    none = sym holds.ended ∙ unended
+    none : list_any is_end (lines_told before) ≡ false
+    none = sym stages.ended ∙ unended
 
     -- one that is refused
-    pub refused_unsaid : (why : Why) → line_said text ≡ Err why → line_fault before text ≡ Some why
-    refused_unsaid why says = ap (fault_of_said before) says ∙ ap (λ b. cond b (Some BadLine) (Some why)) none
+    pub refused_unsaid : (why : Why) → line_said places text ≡ Err why → line_fault places before text ≡ Some why
+    refused_unsaid why says = ap (fault_of_said (lines_told before)) says ∙ ap (λ b. cond b (Some BadLine) (Some why)) none
 
-    module _ (line : LogLine) (says : line_said text ≡ Ok line) where
+    module _ (line : SaidLine) (says : line_said places text ≡ Ok line) where
       -- one that stands in another place
-      pub refused_there : may_follow before line ≡ false → line_fault before text ≡ Some BadLine
-      refused_there other = ap (fault_of_said before) says ∙ rw (none, other) refl
+      pub refused_there : may_follow (lines_told before) line.line ≡ false → line_fault places before text ≡ Some BadLine
+      refused_there other = ap (fault_of_said (lines_told before)) says ∙ rw (none, other) refl
 
-      pub accepted_next : (number : ℕ) (new : Reading) → may_follow before line ≡ true → number ≡ suc (length before) → Adds old number line new → IsTextNext before text new
-      accepted_next number new may numbered adds = record { line = line; says = says; clean = rw (none, may) refl; holds = holds_next old new before number line holds numbered adds }
+      pub accepted_next : (new : Reading) (next : ℕ) → may_follow (lines_told before) line.line ≡ true → IsWithin line → HoldsSaid new boundaries (before ++ line ∷ []) next →
+          IsTextNext places boundaries before text new next
+      accepted_next new next may within held = record { line = line; says = says; clean = rw (none, may) refl; within = within; holds = held }
 
 -- what the test of a length against 0 says
 pub no_elements : {X : Type 0} (xs : List X) (n : ℕ) (b : Bool) → n ≡ length xs → b ≡ eqb n 0 → b ≡ true → xs ≡ []

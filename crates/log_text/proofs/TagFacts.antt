@@ -14,9 +14,10 @@ use Rattle.line_text.specs.Lines.{parts_of}
 use Rattle.run_lines.specs.Lines.{is_plain}
 use Rattle.run_lines.specs.Tags.{before_tag, begins_tag}
 use Rattle.tso_text.specs.declared.faults.Why.TheVariants.{BadLine}
-use Rattle.log_text.specs.declared.lines.LogLine.{LogLine}
+use Rattle.run_lines.specs.declared.arguments.Widths.{Widths}
+use Rattle.log_text.specs.declared.lines.SaidLine.{SaidLine}
 use Rattle.log_text.specs.LogLines.{line_said, result_told}
-use Rattle.log_text.specs.LogTexts.{SpellsLog}
+use Rattle.log_text.specs.LogTexts.{places_of_text, SpellsLog}
 use Rattle.log_text.specs.LogValues.{NumberedLog}
 use Rattle.log_text.specs.declared.tags.LineTags.{LineTags}
 use Rattle.log_text.specs.Tags.{bytes_between, start_at, tag_at, tag_of, tag_of_index}
@@ -77,24 +78,24 @@ bytes_ascii : (bytes : List ℕ) → list_all (λ b. nat_lt b 128) bytes ≡ tru
 bytes_ascii bytes plain k d within = let test : nat_lt (get_or bytes k d) 128 ≡ true = AllPass-from_list_all (λ b. nat_lt b 128) bytes plain k d within in grind (arith, nat_tests)
 
 -- a line that is read is ASCII
-said_ascii : (line : List ℕ) (said : LogLine) → line_said line ≡ Ok said → IsAscii line
+said_ascii : (places : Widths) (line : List ℕ) (said : SaidLine) → line_said places line ≡ Ok said → IsAscii line
 unfolding line_said
-said_ascii line said is = ⊎_elim
+said_ascii places line said is = ⊎_elim
     (λ (plain : is_plain line ≡ true). IsAscii-from_all line (bytes_ascii line plain))
-    (λ (other : is_plain line ≡ false). absurd (let refused : result_told (Err BadLine) ≡ Ok said = sym (rw other refl) ∙ is in cc))
+    (λ (other : is_plain line ≡ false). absurd (let refused : result_told places (Err BadLine) ≡ Ok said = sym (rw other refl) ∙ is in cc))
     (cases_Bool (is_plain line))
 
-lines_ascii : (texts : List (List ℕ)) (lines : List LogLine) → map line_said texts ≡ map Ok lines → (k : ℕ) → IsAscii (get_or (texts ++ [] ∷ []) k [])
-lines_ascii [] lines said zero = IsAscii-nil
-lines_ascii [] lines said (suc k) = IsAscii-nil
-lines_ascii (text ∷ texts) [] said k = absurd cc
-lines_ascii (text ∷ texts) (line ∷ lines) said zero = said_ascii text line cc
-lines_ascii (text ∷ texts) (line ∷ lines) said (suc k) = let others : map line_said texts ≡ map Ok lines = cc in lines_ascii texts lines others k
+lines_ascii : (places : Widths) (texts : List (List ℕ)) (lines : List SaidLine) → map (line_said places) texts ≡ map Ok lines → (k : ℕ) → IsAscii (get_or (texts ++ [] ∷ []) k [])
+lines_ascii places [] lines said zero = IsAscii-nil
+lines_ascii places [] lines said (suc k) = IsAscii-nil
+lines_ascii places (text ∷ texts) [] said k = absurd cc
+lines_ascii places (text ∷ texts) (line ∷ lines) said zero = said_ascii places text line cc
+lines_ascii places (text ∷ texts) (line ∷ lines) said (suc k) = let others : map (line_said places) texts ≡ map Ok lines = cc in lines_ascii places texts lines others k
 
 pub tags_ascii : (text : List ℕ) (log : NumberedLog) → SpellsLog text log → (number : ℕ) → IsAscii (tag_at (parts_of text) number)
 tags_ascii text log spells number =
     let line : IsAscii (get_or (parts_of text) (number - 1) []) =
-    subst (λ (parts : List (List ℕ)). IsAscii (get_or parts (number - 1) [])) (sym spells.whole) (lines_ascii spells.texts spells.lines spells.said.said (number - 1)) in
+    subst (λ (parts : List (List ℕ)). IsAscii (get_or parts (number - 1) [])) (sym spells.whole) (lines_ascii (places_of_text text) spells.texts spells.lines spells.said.said (number - 1)) in
     IsAscii-drop (get_or (parts_of text) (number - 1) []) (length (before_tag (get_or (parts_of text) (number - 1) []))) line
 
 -- ---- one line after another

@@ -1,14 +1,16 @@
 -- What a line says to a log.
 use Rattle.std.specs.Str.{bytes_eq}
-use Rattle.std.specs.Prelude.{ℕ, ◌||◌, Bool, List, Result, Ok, Err, codes, if◌then◌else◌}
+use Rattle.std.specs.Prelude.{ℕ, ◌==◌, ◌||◌, Bool, List, [], ◌∷◌, Option, None, Some, Result, Ok, Err, codes, slice_get, if◌then◌else◌}
 use Rattle.tso_text.specs.Numbers.{number_at}
 use Rattle.tso_text.specs.declared.faults.Why.{Why}
-use Rattle.tso_text.specs.declared.faults.Why.TheVariants.{MixedWidths, Widths}
+use Rattle.tso_text.specs.declared.faults.Why.TheVariants.{MixedWidths, Widths as WhyWidths}
+use Rattle.run_lines.specs.declared.arguments.Widths.{Widths}
 use Rattle.run_lines.specs.declared.arguments.Widths.TheVariants as widths
 use Rattle.run_lines.specs.Lines.{LineNumbers, note, pso, first, step, finish, line_read}
 use Rattle.log_text.specs.declared.logs.LogOperation.TheVariants.{Ld, St, Sw, Mb, Sb}
 use Rattle.log_text.specs.declared.lines.LogLine.{LogLine}
 use Rattle.log_text.specs.declared.lines.LogLine.TheVariants.{Note, Pso, First, Issued, Unknown, Memory, End}
+use Rattle.log_text.specs.declared.lines.SaidLine.{SaidLine}
 
 -- the keyword of a load, which may reserve its place
 abbrev pub is_load_word : List ℕ → Bool
@@ -38,15 +40,54 @@ line_told (first numbers) = First (number_at numbers 0) (number_at numbers 2)
 line_told (step p word numbers) = step_told p word numbers
 line_told finish = End
 
--- the refusal of a line in whose text no place has a width: a log has none
-abbrev pub refusal_told : Why → Why
-refusal_told MixedWidths = Widths
-refusal_told why = why
+-- of such a line a log takes nothing
+abbrev pub is_memory_word : List ℕ → Bool
+is_memory_word word = bytes_eq word (codes "dr") || bytes_eq word (codes "last")
 
-abbrev pub result_told : Result LineNumbers Why → Result LogLine Why
-result_told (Err why) = Err (refusal_told why)
-result_told (Ok line) = Ok (line_told line)
+-- The width of the place of which a line says something to a log: 0 of a location, and where there is no such place.
+abbrev pub width_told : LineNumbers → ℕ
+width_told note = 0
+width_told pso = 0
+width_told (first numbers) = number_at numbers 1
+width_told (step p word numbers) = if is_memory_word word then 0 else number_at numbers 1
+width_told finish = 0
 
--- what a line says, or its refusal
-unfoldable pub line_said : List ℕ → Result LogLine Why
-line_said line = result_told (line_read widths.Locations line)
+abbrev pub said_told : LineNumbers → SaidLine
+said_told numbers = record { line = line_told numbers; width = width_told numbers }
+
+-- the refusal of a line in a text of such places: where they are locations, a place with a width has a name of its own
+abbrev pub refusal_told : Widths → Why → Why
+refusal_told widths.Locations MixedWidths = WhyWidths
+refusal_told before why = why
+
+abbrev pub result_told : Widths → Result LineNumbers Why → Result SaidLine Why
+result_told before (Err why) = Err (refusal_told before why)
+result_told before (Ok line) = Ok (said_told line)
+
+-- what a line says, or its refusal, in a text of such places
+unfoldable pub line_said : Widths → List ℕ → Result SaidLine Why
+line_said before line = result_told before (line_read before line)
+
+-- ---- which places a text has
+
+-- the width that a line names first
+abbrev pub width_named : LineNumbers → Option ℕ
+width_named note = None
+width_named pso = None
+width_named (first numbers) = slice_get numbers 1
+width_named (step p word numbers) = slice_get numbers 1
+width_named finish = None
+
+-- locations have no width
+abbrev pub widths_named : Option ℕ → Widths → Widths
+widths_named None later = later
+widths_named (Some width) later = if width == 0 then widths.Locations else widths.Bytes
+
+abbrev pub widths_read : Result LineNumbers Why → Widths → Widths
+widths_read (Err why) later = widths.Unseen
+widths_read (Ok line) later = widths_named (width_named line) later
+
+-- The places of a text are as its first one, where no line before it is refused.
+abbrev pub widths_of_texts : List (List ℕ) → Widths
+widths_of_texts [] = widths.Unseen
+widths_of_texts (text ∷ texts) = widths_read (line_read widths.Unseen text) (widths_of_texts texts)

@@ -13,7 +13,10 @@ use Rattle.log_text.specs.declared.lines.LogLine.TheVariants.{Note, Pso, First, 
 use Rattle.log_text.specs.declared.logs.LogOperation.{LogOperation}
 use Rattle.log_text.specs.declared.logs.LogOperation.TheVariants.{Ld, St, Sw, Mb, Sb}
 use Rattle.log_text.specs.declared.logs.LoggedOperation.{LoggedOperation}
-use Rattle.log_text.specs.LogLines.{line_said}
+use Rattle.run_lines.specs.declared.arguments.Widths.{Widths}
+use Rattle.log_text.specs.declared.lines.SaidLine.{SaidLine}
+use Rattle.log_text.specs.LogLines.{line_said, widths_of_texts}
+use Rattle.log_text.specs.Splits.{split_lines}
 use Rattle.log_text.specs.LogValues.{NumberedLog}
 
 -- ---- the log of some lines
@@ -170,54 +173,62 @@ abbrev pub fault_after : List LogLine → LogLine → Option Why
 fault_after before line = if list_any is_end before then Some BadLine else if may_follow before line then None else Some BadLine
 
 -- that of bytes after these lines which say this, or are refused
-abbrev pub fault_of_said : List LogLine → Result LogLine Why → Option Why
+abbrev pub fault_of_said : List LogLine → Result SaidLine Why → Option Why
 fault_of_said before (Err why) = if list_any is_end before then Some BadLine else Some why
-fault_of_said before (Ok line) = fault_after before line
+fault_of_said before (Ok said) = fault_after before said.line
 
--- that of the bytes of a line
-abbrev pub line_fault : List LogLine → List ℕ → Option Why
-line_fault before text = fault_of_said before (line_said text)
+-- what lines say, whatever the widths of their places
+abbrev pub lines_told : List SaidLine → List LogLine
+lines_told lines = map (λ s. s.line) lines
 
--- each of the lines says what stands in its place, and none has a fault
-pub record AreSaid (texts : List (List ℕ)) (lines : List LogLine) : Type 0 where
-  pub said : map line_said texts ≡ map Ok lines
-  pub clean : (before : List LogLine) (line : LogLine) (after : List LogLine) → lines ≡ before ++ line ∷ after → fault_after before line ≡ None
+-- that of the bytes of a line, in a text of such places
+abbrev pub line_fault : Widths → List SaidLine → List ℕ → Option Why
+line_fault places before text = fault_of_said (lines_told before) (line_said places text)
+
+-- each of the lines says what stands in its place, in a text of such places, and none has a fault
+pub record AreSaid (places : Widths) (texts : List (List ℕ)) (lines : List SaidLine) : Type 0 where
+  pub said : map (line_said places) texts ≡ map Ok lines
+  pub clean : (before : List SaidLine) (line : SaidLine) (after : List SaidLine) → lines ≡ before ++ line ∷ after → fault_after (lines_told before) line.line ≡ None
 
 -- ---- texts
 
--- The text spells this log: it consists of lines, each with its line end, and they say the log.
+-- which places a text has
+abbrev pub places_of_text : List ℕ → Widths
+places_of_text text = widths_of_texts (parts_of text)
+
+-- The text spells this log: it consists of lines, each with its line end, and they say the log, where the bytes of their places are cut at all boundaries.
 pub record SpellsLog (text : List ℕ) (log : NumberedLog) : Type 0 where
   pub texts : List (List ℕ)
-  pub lines : List LogLine
+  pub lines : List SaidLine
   pub whole : parts_of text ≡ texts ++ [] ∷ []
-  pub said : AreSaid texts lines
-  pub is : log ≡ log_of_lines lines
+  pub said : AreSaid (places_of_text text) texts lines
+  pub is : log ≡ log_of_lines (split_lines (places_of_text text) lines)
 
 -- The text has a line `end`: it consists of lines, each with its line end, and they say a log that has one.
 pub record IsEndedLog (text : List ℕ) : Type 0 where
   pub texts : List (List ℕ)
-  pub lines : List LogLine
+  pub lines : List SaidLine
   pub whole : parts_of text ≡ texts ++ [] ∷ []
-  pub said : AreSaid texts lines
-  pub ended : list_any is_end lines ≡ true
+  pub said : AreSaid (places_of_text text) texts lines
+  pub ended : list_any is_end (lines_told lines) ≡ true
 
 -- where a text needs a line `end`, it has one
 abbrev pub IsEndedAsNeeded : Bool → List ℕ → Type 0
 IsEndedAsNeeded needs_end text = needs_end ≡ true → IsEndedLog text
 
--- A part of a text is refused after these lines: it has a fault, or it is the last part and no line end follows it, or none of the lines is an `end` that
--- the text needs.
-abbrev pub IsPartRefused : Bool → List LogLine → List ℕ → List (List ℕ) → Why → Type 0
-IsPartRefused needs_end before part [] why = ((part ≢ []) ⊎ ((needs_end ≡ true) × (list_any is_end before ≡ false))) × (why ≡ BadLine)
-IsPartRefused needs_end before part (next ∷ after) why = line_fault before part ≡ Some why
+-- A part of a text of such places is refused after these lines: it has a fault, or it is the last part and no line end follows it, or none of the lines
+-- is an `end` that the text needs.
+abbrev pub IsPartRefused : Bool → Widths → List SaidLine → List ℕ → List (List ℕ) → Why → Type 0
+IsPartRefused needs_end places before part [] why = ((part ≢ []) ⊎ ((needs_end ≡ true) × (list_any is_end (lines_told before) ≡ false))) × (why ≡ BadLine)
+IsPartRefused needs_end places before part (next ∷ after) why = line_fault places before part ≡ Some why
 
 -- The refusal of a text: its first line with a fault, counted from 1, and that fault. Where an `end` is needed and missing, the line after all others has it.
 pub record IsLogRefusal (needs_end : Bool) (text : List ℕ) (line : ℕ) (why : Why) : Type 0 where
   pub texts : List (List ℕ)
-  pub lines : List LogLine
+  pub lines : List SaidLine
   pub part : List ℕ
   pub after : List (List ℕ)
   pub whole : parts_of text ≡ texts ++ part ∷ after
-  pub said : AreSaid texts lines
+  pub said : AreSaid (places_of_text text) texts lines
   pub is : line ≡ suc (length texts)
-  pub fault : IsPartRefused needs_end lines part after why
+  pub fault : IsPartRefused needs_end (places_of_text text) lines part after why

@@ -3,6 +3,7 @@ use Rattle.std.specs.Prelude.{◌≡◌, ℕ, ◌+◌, ◌-◌, ◌&&◌, nat_le
 use Rattle.line_text.specs.Lines.{parts_of}
 use Rattle.run_lines.specs.Tags.{before_tag}
 use Rattle.log_text.specs.declared.tags.LineTags.{LineTags}
+use Rattle.log_text.specs.Origins.{AreOriginsOf}
 
 -- the tag of a line, with the space before it: nothing where it has none
 abbrev pub tag_of : List ℕ → List ℕ
@@ -28,6 +29,7 @@ tag_of_index tags index = bytes_between tags.bytes.items (start_at tags index) (
 abbrev pub tag_in : LineTags → ℕ → List ℕ
 tag_in tags number = tag_of_index tags (number - 1)
 
--- they are the tags of the lines of this text
-abbrev pub AreTagsOf : List ℕ → LineTags → Type 0
-AreTagsOf text tags = (number : ℕ) → tag_in tags number ≡ tag_at (parts_of text) number
+-- they are the tags of the lines of this text, and from these its operations come
+pub record AreTagsOf (text : List ℕ) (found : LineTags) : Type 0 where
+  pub tags : (number : ℕ) → tag_in found number ≡ tag_at (parts_of text) number
+  pub origins : AreOriginsOf text found.origins

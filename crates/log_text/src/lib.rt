@@ -4,15 +4,18 @@
 //! proved.
 #![tactic(auto)]
 
-pub use lines::LogLine;
+pub use lines::{LogLine, SaidLine};
 pub use logs::{Log, LogOperation, LoggedOperation};
+pub use origins::Origins;
 pub use readers::read_log;
 pub use tags::{LineTags, read_tags};
 
+mod cutting;
 mod known;
 pub mod laws;
 mod lines;
 mod logs;
+mod origins;
 mod readers;
 mod readings;
 mod tags;

@@ -15,10 +15,11 @@ pub enum LogOperation {
     Sb,
 }
 
-/// An operation of a log, and the number of its line in the log's text, from 1.
+/// An operation of a log, and the number that it has among the pieces of the lines of the log's text, from 1: that of its line, where
+/// no line is cut.
 #[derive(Clone, Copy, Debug, PartialEq, Eq)]
 pub struct LoggedOperation {
-    /// The number of the line.
+    /// The number.
     pub line: usize,
     /// The operation.
     pub operation: LogOperation,
@@ -26,7 +27,7 @@ pub struct LoggedOperation {
 
 /// A log: its memory model, the first values of memory, and what each processor did.
 ///
-/// The operations at an address that a line `un` names aren't there.
+/// The operations on what a line `un` names aren't there.
 #[derive(Debug, Drop)]
 pub struct Log {
     /// The memory model.
@@ -35,6 +36,6 @@ pub struct Log {
     pub first: Vec<(u64, u64)>,
     /// The operations of processors 0, 1, .. up to the last that has one or a line `un`, each in program order.
     pub lists: Vec<Vec<LoggedOperation>>,
-    /// How many operations of the text aren't there, since a line `un` names their address.
+    /// How many operations aren't there, since a line `un` names their address.
     pub left_out: usize,
 }

@@ -1,13 +1,16 @@
 //! A log while its text is read: it holds what the lines so far say.
-ghost use Rattle.std.specs.Prelude.{◌≡◌, ◌&&◌, ◌++◌, ◌∷◌, [], ◌+◌, ◌<◌, ℕ, List, length, get_or, set, OnOk, IfOk, IfErr, vec_len, max, not, true};
+ghost use Rattle.std.specs.Prelude.{◌≡◌, ◌&&◌, ◌++◌, ◌∷◌, [], ◌+◌, ◌<◌, ℕ, List, length, get_or, set, OnOk, IfOk, IfErr, vec_len, map, max, not, suc, true};
+ghost use Rattle.std.specs.HashSet.{keys};
 ghost use Rattle.tso_ops.specs.Values.{rows};
-ghost use Rattle.log_text.specs.Internal.Readings.{Adds, HoldsLines, IsTextAccepted, IsTextRefused};
-ghost use Rattle.log_text.specs.declared.lines.LogLine.{LogLine};
+ghost use Rattle.log_text.specs.Internal.Cuts.{IsWithin};
+ghost use Rattle.log_text.specs.Internal.Readings.{Adds, HoldsLines, HoldsSaid, HoldsStages, IsTextAccepted, IsTextRefused};
 ghost use Rattle.log_text.specs.LogTexts.{log_of_lines, may_follow};
 ghost use Rattle.log_text.specs.LogValues.{log_value};
+ghost use Rattle.log_text.specs.Splits.{line_on_piece};
 
+use crate::cutting::{Cutting, line_on_piece};
 use crate::known::leave_out;
-use crate::lines::{LogLine, line_said};
+use crate::lines::{LogLine, SaidLine, line_said};
 use crate::logs::{Log, LogOperation, LoggedOperation};
 use std::alloc::{AllocFailed, Global};
 use std::collections::BTreeMap;
@@ -49,33 +52,78 @@ impl Reading {
         }
     }
 
-    /// Accepts the line of this number, the next one, or refuses it for its fault; or OutOfMemory.
+    /// Accepts the next line, whose first operation has this number, or refuses it for its fault; or OutOfMemory. Gives the number of
+    /// what follows.
     pub(crate) fn accept_line(
         &mut self,
         alloc: Global,
+        cutting: &Cutting,
         number: usize,
         line: &[u8],
-    ) -> Result<(), Why>
-        requires { (before : List LogLine) × HoldsLines self.old before }
-        ensures accepted { OnOk result (IsTextAccepted self.old number line.now self.new) }
-        ensures refused { IfErr result (IsTextRefused self.old line.now) }
+    ) -> Result<usize, Why>
+        ensures accepted { IfOk result (IsTextAccepted cutting.now self.old number line.now self.new) }
+        ensures refused { IfErr result (IsTextRefused cutting.now self.old line.now) }
     {
         if self.is_ended {
             return Err(Why::BadLine);
         }
-        let said = line_said(line)?;
-        if !self.may_follow(said) {
+        let said = match line_said(cutting.places, line) {
+            Ok(said) => said,
+            Err(why) => return Err(why),
+        };
+        if !self.may_follow(said.line) {
             return Err(Why::BadLine);
         }
-        match self.take(alloc, number, said) {
-            Ok(()) => Ok(()),
+        match self.take_said(alloc, cutting, number, said) {
+            Ok(next) => Ok(next),
             Err(_) => Err(Why::OutOfMemory),
         }
     }
 
+    /// Takes what a line says, piece by piece from this number on, and gives the number of what follows. OutOfMemory where an
+    /// allocation was refused.
+    fn take_said(
+        &mut self,
+        alloc: Global,
+        cutting: &Cutting,
+        number: usize,
+        said: SaidLine,
+    ) -> Result<usize, OutOfMemory>
+        requires { IsWithin said }
+        ensures { IfOk result (λ next. (before : List SaidLine) → HoldsSaid self.old (keys cutting.now.boundaries) before number →
+            HoldsSaid self.new (keys cutting.now.boundaries) (before ++ said ∷ []) next) }
+    {
+        if said.width == 0 {
+            self.take(alloc, number, said.line)?;
+            return next_number(number);
+        }
+        let pieces = cutting.pieces(alloc, said)?;
+        self.take_pieces(alloc, number, said.line, &pieces)
+    }
+
+    /// Takes what a line says of these pieces of its place, from this number on, and gives the number of what follows. OutOfMemory
+    /// where an allocation was refused.
+    fn take_pieces(
+        &mut self,
+        alloc: Global,
+        number: usize,
+        line: LogLine,
+        pieces: &[(u64, u64)],
+    ) -> Result<usize, OutOfMemory>
+        ensures { IfOk result (λ next. (before : List LogLine) → HoldsLines self.old before → number ≡ suc (length before) →
+            HoldsLines self.new (before ++ map (line_on_piece line) pieces.now) × (next ≡ number + length pieces.now)) }
+    {
+        let mut next = number;
+        for piece in pieces {
+            self.take(alloc, next, line_on_piece(line, *piece))?;
+            next = next_number(next)?;
+        }
+        Ok(next)
+    }
+
     /// Whether what a line says may follow the lines so far, where no line `end` came.
     fn may_follow(&self, line: LogLine) -> bool
-        ensures { (before : List LogLine) → HoldsLines self.now before → result ≡ may_follow before line }
+        ensures { (before : List LogLine) → HoldsStages self.now before → result ≡ may_follow before line }
     {
         match line {
             LogLine::Pso => !self.is_begun,
@@ -197,6 +245,13 @@ impl Reading {
         };
         leave_out(alloc, log, &unknown)
     }
+}
+
+/// The number after this one; OutOfMemory above 64 bits: no memory holds so many operations.
+fn next_number(number: usize) -> Result<usize, OutOfMemory>
+    ensures { IfOk result (λ next. next ≡ number + 1) }
+{
+    number.checked_add(1).ok_or(OutOfMemory)
 }
 
 /// The entries of a map, in ascending order of their keys.

@@ -24,7 +24,7 @@ use Rattle.run_following.specs.Counts.{counted_with}
 use Rattle.run_following.specs.Facts.{RefusalTold, told}
 use Rattle.run_following.specs.KeptLines.{AreKept, has_kept, text_at}
 use Rattle.run_following.specs.Noted.{AreNoted}
-use Rattle.run_following.specs.PlacesSaid.{widths_after}
+use Rattle.run_lines.specs.PlacesSaid.{widths_after}
 use Rattle.run_following.specs.Stages.{stage_after}
 use Rattle.run_following.specs.Tallies.{Tallies, has_acted, is_compared}
 

@@ -7,7 +7,6 @@ pub mod Internal
 pub mod JsonLines
 pub mod KeptLines
 pub mod Noted
-pub mod PlacesSaid
 pub mod Reports
 pub mod Runs
 pub mod Sentences

@@ -24,5 +24,4 @@ mod sentences;
 mod stages;
 mod streams;
 mod tallies;
-mod widths;
 mod words;

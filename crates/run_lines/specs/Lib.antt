@@ -2,4 +2,5 @@ pub mod Arguments
 pub mod Lines
 pub mod Numerals
 pub mod PlaceTexts
+pub mod PlacesSaid
 pub mod Tags

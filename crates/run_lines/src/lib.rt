@@ -8,6 +8,7 @@ pub use lines::{RunText, line_read};
 pub use numerals::numeral_of;
 pub use places::place_of;
 pub use tags::without_tag;
+pub use widths::widths_after;
 
 mod arguments;
 mod lines;
@@ -15,3 +16,4 @@ mod numerals;
 mod places;
 mod steps;
 mod tags;
+mod widths;

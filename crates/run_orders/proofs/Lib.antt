@@ -10,7 +10,13 @@ pub mod LastDrains
 pub mod Lines
 pub mod Logs
 pub mod Orders
-pub mod Bytes
-pub mod ByteSteps
-pub mod ByteRuns
-pub mod ByteOrders
+pub mod PieceReads
+pub mod Pieces
+pub mod PieceSteps
+pub mod PieceMemory
+pub mod PieceLines
+pub mod PieceStates
+pub mod PieceRuns
+pub mod PieceFirsts
+pub mod FirstCells
+pub mod PieceOrders

@@ -21,8 +21,7 @@ use Rattle.unit_core.specs.declared.steps.Step.{Step}
 use Rattle.unit_core.specs.Machine.{lists_from, outcomes_of}
 use Rattle.embedding.specs.Sizes.{Sizes}
 use Rattle.run_orders.specs.RunLogs.{logged_line}
-use Rattle.run_orders.specs.ByteLogs.{is_said}
-use Rattle.run_orders.proofs.Told.{outcomes_told}
+use Rattle.run_orders.proofs.Told.{is_said, outcomes_told}
 use Rattle.run_orders.proofs.Lines.{Suits, told_to}
 
 -- ---- operations

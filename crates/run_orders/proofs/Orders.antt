@@ -20,9 +20,9 @@ use Rattle.embedding.specs.Sizes.{Sizes, IsCompleteRunIn, first_state_in}
 use Rattle.embedding.specs.RunOrder.{memory_order_in}
 use Rattle.embedding.proofs.RunOrderFacts.{run_order_in, same_or}
 use Rattle.run_orders.specs.RunLogs.{AreNumberedAbove, IsAtLocation, IsHeldRun, logged_line}
-use Rattle.run_orders.specs.ByteLogs.{is_said}
 use Rattle.run_orders.proofs.Waiting.{HasWord}
 use Rattle.run_orders.proofs.States.{tag_of}
+use Rattle.run_orders.proofs.Told.{is_said}
 use Rattle.run_orders.proofs.Matching.{IsBuffer, Matches}
 use Rattle.run_orders.proofs.LastDrains.{Emptied, empty_all, run-append, run_within, silent_outcomes}
 use Rattle.run_orders.proofs.Lines.{RunMatched, run_matched}

@@ -1,5 +1,5 @@
 -- What a step of a run says to a log, and what steps of the machine of units answer for it.
-use Rattle.std.proofs.Common.{◌≡◌, ◌∙◌, sym, ap, refl, ℕ, Bool, cond, None, List, [], ◌∷◌, filter_map, if◌then◌else◌, eq-eqb, ne_eqb}
+use Rattle.std.proofs.Common.{◌≡◌, ◌∙◌, sym, ap, refl, ℕ, Bool, true, false, cond, None, List, [], ◌∷◌, filter_map, if◌then◌else◌, eq-eqb, ne_eqb}
 use Rattle.std.specs.List.{AllByRecursion, cons_option}
 use Rattle.tso_ops.specs.declared.ops.Outcome.{Outcome}
 use Rattle.tso_ops.specs.declared.ops.Outcome.TheVariants.{Ld, St, Sw, Mb, Sb}
@@ -7,11 +7,23 @@ use Rattle.tso_ops.specs.declared.settings.Order.{Order}
 use Rattle.run_steps.specs.declared.steps.RunStep.{RunStep}
 use Rattle.run_steps.specs.declared.steps.RunStep.TheVariants.{Load, Store, Drain, Write, Swap, Reserve, StoreReserved, Membar, Stbar, Unknown, Last}
 use Rattle.run_steps.specs.Machine.{MachineState}
+use Rattle.log_text.specs.declared.lines.LogLine.{LogLine}
+use Rattle.log_text.specs.declared.lines.LogLine.TheVariants as said
 use Rattle.unit_core.specs.declared.steps.Step.{Step}
 use Rattle.unit_core.specs.Machine.{State, after, outcome_of, outcomes_of, proc_of}
 use Rattle.embedding.specs.Sizes.{Sizes, IsRunIn}
 use Rattle.run_orders.proofs.Matching.{Matches}
 use Rattle.run_orders.proofs.Waiting.{is_known}
+
+-- the line says something to a log: that a store reached memory, and what memory holds, don't
+abbrev pub is_said : LogLine → Bool
+is_said said.Note = false
+is_said said.Pso = false
+is_said (said.First a v) = false
+is_said (said.Issued p x) = true
+is_said (said.Unknown p a) = true
+is_said said.Memory = false
+is_said said.End = false
 
 -- the operation, where its location is known
 abbrev pub when_known : Bool → Outcome → List Outcome

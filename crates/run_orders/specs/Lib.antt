@@ -1,2 +1,2 @@
 pub mod RunLogs
-pub mod ByteLogs
+pub mod SplitLogs

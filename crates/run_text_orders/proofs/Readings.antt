@@ -1,18 +1,18 @@
--- What is read of a line in a text with locations is read of it also where no place was seen yet, and no place has a width.
-use Rattle.std.proofs.Common.{◌≡◌, ◌∙◌, ap, refl, subst, ℕ, ◌==◌, ◌||◌, not, Bool, true, false, eqb-true, if◌then◌else◌, Option, None, Some, Result, Ok, Err, List, [], ◌∷◌, codes}
+-- What is read of a line in a text with such places is read of it also where no place was seen yet, and such a text admits its place.
+use Rattle.std.proofs.Common.{◌≡◌, ◌∙◌, ap, refl, subst, ℕ, ◌||◌, not, Bool, true, false, if◌then◌else◌, Option, None, Some, Result, Ok, Err, List, [], ◌∷◌, codes, slice_get}
 use Rattle.std.specs.Str.{bytes_eq}
 use Rattle.line_text.specs.Lines.{tokens_of}
 use Rattle.line_text.specs.Results.{◌>>=◌}
-use Rattle.tso_text.specs.Numbers.{number_at}
 use Rattle.tso_text.specs.declared.faults.Why.{Why}
 use Rattle.tso_text.specs.declared.faults.Why.TheVariants.{BadLine, BadNumber, MixedWidths}
 use Rattle.run_lines.specs.declared.arguments.Widths.{Widths}
-use Rattle.run_lines.specs.declared.arguments.Widths.TheVariants.{Unseen, Locations, Bytes}
-use Rattle.run_lines.specs.Arguments.{all_said, place_alone, place_and_value, place_and_values, place_said, place_told, value_said}
+use Rattle.run_lines.specs.declared.arguments.Widths.TheVariants.{Unseen}
+use Rattle.run_lines.specs.Arguments.{admits, all_said, place_alone, place_and_value, place_and_values, place_said, place_told, value_said}
 use Rattle.run_lines.specs.Lines.{LineNumbers, note, pso, first, step, finish, drain_said, is_access, is_plain, keyword_said, line_read, numbers_said, parts_said, processor_read, tokens_read}
 use Rattle.run_lines.specs.Numerals.{number_spelled}
 use Rattle.run_lines.specs.PlaceTexts.{place_spelled}
 use Rattle.run_lines.specs.Tags.{before_tag, begins_tag}
+use Rattle.log_text.specs.LogLines.{width_named}
 
 -- what the first reads, the second reads too, and this holds of it
 abbrev IsAlsoRead : {A : Type 0} → (A → Type 0) → Result A Why → Result A Why → Type 0
@@ -40,102 +40,101 @@ also_if : {A : Type 0} (P : A → Type 0) (b : Bool) (r s r_else s_else : Result
 also_if P true r s r_else s_else here there = here
 also_if P false r s r_else s_else here there = there
 
--- ---- places
+-- a text with such places admits one of the width that is named, if one is
+abbrev pub IsAdmitted : Widths → Option ℕ → Type 0
+IsAdmitted kind None = Unit {0}
+IsAdmitted kind (Some width) = admits kind width ≡ true
 
--- the numbers name no place with a width
-abbrev pub IsWidthless : List ℕ → Type 0
-IsWidthless numbers = number_at numbers 1 ≡ 0
+module _ (kind : Widths) where
+  -- ---- places
 
-told_if : (p : ℕ × ℕ) (b : Bool) → (p.1 == 0) ≡ b → IsAlsoRead (λ q. q.1 ≡ 0) (if b then Ok p else Err MixedWidths) (Ok p)
-told_if p true is = also_ok (λ (q : ℕ × ℕ). q.1 ≡ 0) p (eqb-true p.1 0 is)
-told_if p false is = also_err (λ (q : ℕ × ℕ). q.1 ≡ 0) MixedWidths (Ok p)
+  -- the place of the numbers is admitted
+  abbrev AreAdmitted : List ℕ → Type 0
+  AreAdmitted numbers = IsAdmitted kind (slice_get numbers 1)
 
-also_told : (o : Option (ℕ × ℕ)) → IsAlsoRead (λ q. q.1 ≡ 0) (place_told Locations o) (place_told Unseen o)
-also_told None = also_err (λ (q : ℕ × ℕ). q.1 ≡ 0) BadNumber (Err BadNumber)
-also_told (Some p) = told_if p (p.1 == 0) refl
+  told_if : (p : ℕ × ℕ) (b : Bool) → admits kind p.1 ≡ b → IsAlsoRead (λ q. admits kind q.1 ≡ true) (if b then Ok p else Err MixedWidths) (Ok p)
+  told_if p true is = also_ok (λ (q : ℕ × ℕ). admits kind q.1 ≡ true) p is
+  told_if p false is = also_err (λ (q : ℕ × ℕ). admits kind q.1 ≡ true) MixedWidths (Ok p)
 
-also_place : (parts : List (List ℕ)) → IsAlsoRead (λ q. q.0.1 ≡ 0) (place_said Locations parts) (place_said Unseen parts)
-also_place [] = also_err (λ (q : (ℕ × ℕ) × List (List ℕ)). q.0.1 ≡ 0) BadLine (Err BadLine)
-also_place (part ∷ parts) =
-    also_then (λ (q : ℕ × ℕ). q.1 ≡ 0) (λ (q : (ℕ × ℕ) × List (List ℕ)). q.0.1 ≡ 0) (place_told Locations (place_spelled part)) (place_told Unseen (place_spelled part))
-    (λ p. Ok (p, parts)) (λ p. Ok (p, parts)) (also_told (place_spelled part)) (λ p zero. also_ok (λ (q : (ℕ × ℕ) × List (List ℕ)). q.0.1 ≡ 0) (p, parts) zero)
+  also_told : (o : Option (ℕ × ℕ)) → IsAlsoRead (λ q. admits kind q.1 ≡ true) (place_told kind o) (place_told Unseen o)
+  also_told None = also_err (λ (q : ℕ × ℕ). admits kind q.1 ≡ true) BadNumber (Err BadNumber)
+  also_told (Some p) = told_if p (admits kind p.1) refl
 
-also_all : (numbers : List ℕ) (parts : List (List ℕ)) → IsWidthless numbers → IsAlsoRead IsWidthless (all_said numbers parts) (all_said numbers parts)
-also_all numbers [] holds = also_ok IsWidthless numbers holds
-also_all numbers (part ∷ parts) holds = also_err IsWidthless BadLine (Err BadLine)
+  -- the place that is read first is admitted
+  abbrev HasAdmitted : (ℕ × ℕ) × List (List ℕ) → Type 0
+  HasAdmitted q = admits kind q.0.1 ≡ true
 
-abbrev HasNoWidth : (ℕ × ℕ) × List (List ℕ) → Type 0
-HasNoWidth q = q.0.1 ≡ 0
+  also_place : (parts : List (List ℕ)) → IsAlsoRead HasAdmitted (place_said kind parts) (place_said Unseen parts)
+  also_place [] = also_err HasAdmitted BadLine (Err BadLine)
+  also_place (part ∷ parts) =
+      also_then (λ (q : ℕ × ℕ). admits kind q.1 ≡ true) HasAdmitted (place_told kind (place_spelled part)) (place_told Unseen (place_spelled part))
+      (λ p. Ok (p, parts)) (λ p. Ok (p, parts)) (also_told (place_spelled part)) (λ p admitted. also_ok HasAdmitted (p, parts) admitted)
 
-also_alone : (parts : List (List ℕ)) → IsAlsoRead IsWidthless (place_alone Locations parts) (place_alone Unseen parts)
-also_alone parts = also_then HasNoWidth IsWidthless (place_said Locations parts) (place_said Unseen parts) _ _ (also_place parts) (λ p zero. also_all (p.0.0 ∷ p.0.1 ∷ []) p.1 zero)
+  also_all : (numbers : List ℕ) (parts : List (List ℕ)) → AreAdmitted numbers → IsAlsoRead AreAdmitted (all_said numbers parts) (all_said numbers parts)
+  also_all numbers [] holds = also_ok AreAdmitted numbers holds
+  also_all numbers (part ∷ parts) holds = also_err AreAdmitted BadLine (Err BadLine)
 
-also_value : (parts : List (List ℕ)) → IsAlsoRead IsWidthless (place_and_value Locations parts) (place_and_value Unseen parts)
-also_value parts =
-    also_then HasNoWidth IsWidthless (place_said Locations parts) (place_said Unseen parts) _ _ (also_place parts)
-    (λ p zero. also_then (λ v. Unit {0}) IsWidthless (value_said p.0.1 p.1) (value_said p.0.1 p.1) _ _ (also_same (value_said p.0.1 p.1))
-    (λ v any. also_all (p.0.0 ∷ p.0.1 ∷ v.0 ∷ []) v.1 zero))
+  also_alone : (parts : List (List ℕ)) → IsAlsoRead AreAdmitted (place_alone kind parts) (place_alone Unseen parts)
+  also_alone parts =
+      also_then HasAdmitted AreAdmitted (place_said kind parts) (place_said Unseen parts) _ _ (also_place parts) (λ p admitted. also_all (p.0.0 ∷ p.0.1 ∷ []) p.1 admitted)
 
-also_values : (parts : List (List ℕ)) → IsAlsoRead IsWidthless (place_and_values Locations parts) (place_and_values Unseen parts)
-also_values parts =
-    also_then HasNoWidth IsWidthless (place_said Locations parts) (place_said Unseen parts) _ _ (also_place parts)
-    (λ p zero. also_then (λ v. Unit {0}) IsWidthless (value_said p.0.1 p.1) (value_said p.0.1 p.1) _ _ (also_same (value_said p.0.1 p.1))
-    (λ v any. also_then (λ w. Unit {0}) IsWidthless (value_said p.0.1 v.1) (value_said p.0.1 v.1) _ _ (also_same (value_said p.0.1 v.1))
-    (λ w any. also_all (p.0.0 ∷ p.0.1 ∷ v.0 ∷ w.0 ∷ []) w.1 zero)))
+  also_value : (parts : List (List ℕ)) → IsAlsoRead AreAdmitted (place_and_value kind parts) (place_and_value Unseen parts)
+  also_value parts =
+      also_then HasAdmitted AreAdmitted (place_said kind parts) (place_said Unseen parts) _ _ (also_place parts)
+      (λ p admitted. also_then (λ v. Unit {0}) AreAdmitted (value_said p.0.1 p.1) (value_said p.0.1 p.1) _ _ (also_same (value_said p.0.1 p.1))
+      (λ v any. also_all (p.0.0 ∷ p.0.1 ∷ v.0 ∷ []) v.1 admitted))
 
-also_drain : (parts : List (List ℕ)) → IsAlsoRead IsWidthless (drain_said Locations parts) (drain_said Unseen parts)
-also_drain [] = also_ok IsWidthless [] refl
-also_drain (part ∷ []) = also_alone (part ∷ [])
-also_drain (part ∷ other ∷ parts) = also_value (part ∷ other ∷ parts)
+  also_values : (parts : List (List ℕ)) → IsAlsoRead AreAdmitted (place_and_values kind parts) (place_and_values Unseen parts)
+  also_values parts =
+      also_then HasAdmitted AreAdmitted (place_said kind parts) (place_said Unseen parts) _ _ (also_place parts)
+      (λ p admitted. also_then (λ v. Unit {0}) AreAdmitted (value_said p.0.1 p.1) (value_said p.0.1 p.1) _ _ (also_same (value_said p.0.1 p.1))
+      (λ v any. also_then (λ w. Unit {0}) AreAdmitted (value_said p.0.1 v.1) (value_said p.0.1 v.1) _ _ (also_same (value_said p.0.1 v.1))
+      (λ w any. also_all (p.0.0 ∷ p.0.1 ∷ v.0 ∷ w.0 ∷ []) w.1 admitted)))
 
-also_numbers : (word : List ℕ) (parts : List (List ℕ)) → IsAlsoRead IsWidthless (numbers_said Locations word parts) (numbers_said Unseen word parts)
-unfolding numbers_said
-also_numbers word parts =
-    also_if IsWidthless (is_access word) _ _ _ _ (also_value parts)
-    (also_if IsWidthless (bytes_eq word (codes "dr")) _ _ _ _ (also_drain parts)
-    (also_if IsWidthless (bytes_eq word (codes "sw")) _ _ _ _ (also_values parts)
-    (also_if IsWidthless (bytes_eq word (codes "un")) _ _ _ _ (also_alone parts)
-    (also_if IsWidthless (bytes_eq word (codes "mb") || bytes_eq word (codes "stbar")) _ _ _ _ (also_all [] parts refl) (also_err IsWidthless BadLine (Err BadLine))))))
+  also_drain : (parts : List (List ℕ)) → IsAlsoRead AreAdmitted (drain_said kind parts) (drain_said Unseen parts)
+  also_drain [] = also_ok AreAdmitted [] tt
+  also_drain (part ∷ []) = also_alone (part ∷ [])
+  also_drain (part ∷ other ∷ parts) = also_value (part ∷ other ∷ parts)
 
--- ---- lines
+  also_numbers : (word : List ℕ) (parts : List (List ℕ)) → IsAlsoRead AreAdmitted (numbers_said kind word parts) (numbers_said Unseen word parts)
+  unfolding numbers_said
+  also_numbers word parts =
+      also_if AreAdmitted (is_access word) _ _ _ _ (also_value parts)
+      (also_if AreAdmitted (bytes_eq word (codes "dr")) _ _ _ _ (also_drain parts)
+      (also_if AreAdmitted (bytes_eq word (codes "sw")) _ _ _ _ (also_values parts)
+      (also_if AreAdmitted (bytes_eq word (codes "un")) _ _ _ _ (also_alone parts)
+      (also_if AreAdmitted (bytes_eq word (codes "mb") || bytes_eq word (codes "stbar")) _ _ _ _ (also_all [] parts tt) (also_err AreAdmitted BadLine (Err BadLine))))))
 
--- the line names no place with a width
-abbrev pub IsLineWidthless : LineNumbers → Type 0
-IsLineWidthless note = Unit {0}
-IsLineWidthless pso = Unit {0}
-IsLineWidthless (first numbers) = IsWidthless numbers
-IsLineWidthless (step p word numbers) = IsWidthless numbers
-IsLineWidthless finish = Unit {0}
+  -- ---- lines
 
-also_keyword : (p : ℕ) (parts : List (List ℕ)) → IsAlsoRead IsLineWidthless (keyword_said Locations p parts) (keyword_said Unseen p parts)
-also_keyword p [] = also_err IsLineWidthless BadLine (Err BadLine)
-also_keyword p (word ∷ parts) =
-    also_then IsWidthless IsLineWidthless (numbers_said Locations word parts) (numbers_said Unseen word parts) _ _ (also_numbers word parts)
-    (λ numbers holds. also_ok IsLineWidthless (step p word numbers) holds)
+  -- the place of the line is admitted
+  abbrev pub IsLineAdmitted : LineNumbers → Type 0
+  IsLineAdmitted n = IsAdmitted kind (width_named n)
 
-also_tokens : (parts : List (List ℕ)) → IsAlsoRead IsLineWidthless (tokens_read Locations parts) (tokens_read Unseen parts)
-unfolding tokens_read
-also_tokens [] = also_err IsLineWidthless BadLine (Err BadLine)
-also_tokens (word ∷ parts) =
-    also_if IsLineWidthless (bytes_eq word (codes "init")) _ _ _ _
-    (also_then IsWidthless IsLineWidthless (place_and_value Locations parts) (place_and_value Unseen parts) _ _ (also_value parts)
-    (λ numbers holds. also_ok IsLineWidthless (first numbers) holds))
-    (also_then (λ p. Unit {0}) IsLineWidthless (processor_read (number_spelled word)) (processor_read (number_spelled word)) _ _ (also_same (processor_read (number_spelled word)))
-    (λ p any. also_keyword p parts))
+  also_keyword : (p : ℕ) (parts : List (List ℕ)) → IsAlsoRead IsLineAdmitted (keyword_said kind p parts) (keyword_said Unseen p parts)
+  also_keyword p [] = also_err IsLineAdmitted BadLine (Err BadLine)
+  also_keyword p (word ∷ parts) =
+      also_then AreAdmitted IsLineAdmitted (numbers_said kind word parts) (numbers_said Unseen word parts) _ _ (also_numbers word parts)
+      (λ numbers holds. also_ok IsLineAdmitted (step p word numbers) holds)
 
-also_parts : (said : List ℕ) → IsAlsoRead IsLineWidthless (parts_said Locations said) (parts_said Unseen said)
-unfolding parts_said
-also_parts said =
-    also_if IsLineWidthless (bytes_eq said (codes "model pso")) _ _ _ _ (also_ok IsLineWidthless pso tt)
-    (also_if IsLineWidthless (bytes_eq said (codes "end")) _ _ _ _ (also_ok IsLineWidthless finish tt) (also_tokens (tokens_of said)))
+  also_tokens : (parts : List (List ℕ)) → IsAlsoRead IsLineAdmitted (tokens_read kind parts) (tokens_read Unseen parts)
+  unfolding tokens_read
+  also_tokens [] = also_err IsLineAdmitted BadLine (Err BadLine)
+  also_tokens (word ∷ parts) =
+      also_if IsLineAdmitted (bytes_eq word (codes "init")) _ _ _ _
+      (also_then AreAdmitted IsLineAdmitted (place_and_value kind parts) (place_and_value Unseen parts) _ _ (also_value parts)
+      (λ numbers holds. also_ok IsLineAdmitted (first numbers) holds))
+      (also_then (λ p. Unit {0}) IsLineAdmitted (processor_read (number_spelled word)) (processor_read (number_spelled word)) _ _ (also_same (processor_read (number_spelled word)))
+      (λ p any. also_keyword p parts))
 
-also_line : (line : List ℕ) → IsAlsoRead IsLineWidthless (line_read Locations line) (line_read Unseen line)
-also_line line =
-    also_if IsLineWidthless (not (is_plain line)) _ _ _ _ (also_err IsLineWidthless BadLine (Err BadLine))
-    (also_if IsLineWidthless (begins_tag line) _ _ _ _ (also_ok IsLineWidthless note tt) (also_parts (before_tag line)))
+  also_parts : (said : List ℕ) → IsAlsoRead IsLineAdmitted (parts_said kind said) (parts_said Unseen said)
+  unfolding parts_said
+  also_parts said =
+      also_if IsLineAdmitted (bytes_eq said (codes "model pso")) _ _ _ _ (also_ok IsLineAdmitted pso tt)
+      (also_if IsLineAdmitted (bytes_eq said (codes "end")) _ _ _ _ (also_ok IsLineAdmitted finish tt) (also_tokens (tokens_of said)))
 
--- A line that is read in a text with locations is read the same where the text's places were of this kind, but for bytes, and has no width.
-pub read_same : (before : Widths) (line : List ℕ) (n : LineNumbers) → (before ≡ Bytes → ⊥) → line_read Locations line ≡ Ok n → (line_read before line ≡ Ok n) × IsLineWidthless n
-read_same Unseen line n other read = also_line line n read
-read_same Locations line n other read = (read, (also_line line n read).1)
-read_same Bytes line n other read = absurd (other refl)
+  -- A line that is read in a text with such places is read the same where no place was seen yet, and its place is admitted.
+  pub also_line : (line : List ℕ) (n : LineNumbers) → line_read kind line ≡ Ok n → (line_read Unseen line ≡ Ok n) × IsLineAdmitted n
+  also_line line =
+      also_if IsLineAdmitted (not (is_plain line)) _ _ _ _ (also_err IsLineAdmitted BadLine (Err BadLine))
+      (also_if IsLineAdmitted (begins_tag line) _ _ _ _ (also_ok IsLineAdmitted note tt) (also_parts (before_tag line)))

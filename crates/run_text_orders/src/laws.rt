@@ -16,22 +16,25 @@ ghost use Rattle.run_following.specs.Words.{refused_words, run_words};
 ghost use Rattle.log_reports.specs.LogReports.{IsLogReport, RendersLog};
 ghost use Rattle.log_text.specs.LogTexts.{SpellsLog};
 ghost use Rattle.log_text.specs.LogValues.{NumberedLog, log_operations};
+ghost use Rattle.run_text_orders.specs.UnknownBytes.{HasNoUnknownBytes};
 
 /// Where a text spells a run none of whose lines is refused, the log that it spells has an order of its memory model. So has a log whose text, as a run, is
-/// reported to hold, also where no value was compared.
+/// reported to hold, also where no value was compared. A text of bytes must have no line `un`: a load of which one byte isn't known is compared nowhere, but its
+/// log has what it says of its other bytes.
 pub fn texts_of_runs_have_orders()
     ensures spelled { (needs_end : Bool) (text : List ℕ) (account : Account) (log : NumberedLog) → SpellsRun needs_end text account →
-        account.refusals ≡ [] → SpellsLog text log → IsConsistent (log_operations log) }
+        account.refusals ≡ [] → SpellsLog text log → HasNoUnknownBytes text → IsConsistent (log_operations log) }
     ensures reported { (renders : RendersRun) (refused : RendersRefusal) (options : FollowOptions) (bytes text : List ℕ) (answer : Answer) (log : NumberedLog) →
         IsRunReport renders refused options bytes text answer → answer ≢ Violation → answer ≢ Refused → SpellsLog bytes log →
-        IsConsistent (log_operations log) }
+        HasNoUnknownBytes bytes → IsConsistent (log_operations log) }
 {}
 
-/// Where the report on a text as a run says neither a violation nor a refusal, no report on it as a log says a violation.
+/// Where the report on a text as a run says neither a violation nor a refusal, no report on it as a log says a violation. A text of bytes must have no line
+/// `un`.
 pub fn runs_that_hold_are_never_violations()
     ensures { (renders : RendersRun) (refused : RendersRefusal) (options : FollowOptions) (bytes text : List ℕ) (answer : Answer) (log_renders : RendersLog)
         (log_refused : RendersRefusal) (log_options : LogOptions) (log_report : List ℕ) → IsRunReport renders refused options bytes text answer →
-        answer ≢ Violation → answer ≢ Refused → IsLogReport log_renders log_refused log_options bytes log_report Violation → ⊥ }
+        answer ≢ Violation → answer ≢ Refused → HasNoUnknownBytes bytes → IsLogReport log_renders log_refused log_options bytes log_report Violation → ⊥ }
 {}
 
 /// A text has one report as a run. Two accounts of the same lines are one; one account is followed of a text, or else it is refused, at one line for one fault.

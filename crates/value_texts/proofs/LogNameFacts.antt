@@ -8,7 +8,8 @@ use Rattle.log_text.specs.declared.lines.LogLine.TheVariants.{Note, Pso, First, 
 use Rattle.log_text.specs.declared.logs.LogOperation.{LogOperation}
 use Rattle.log_text.specs.declared.logs.LogOperation.TheVariants.{Ld, St, Sw, Mb, Sb}
 use Rattle.log_text.specs.declared.logs.LoggedOperation.{LoggedOperation}
-use Rattle.log_text.specs.LogTexts.{issued_in, issued_from, issued_by, log_of_lines, processors_in, SpellsLog}
+use Rattle.log_text.specs.LogTexts.{issued_in, issued_from, issued_by, log_of_lines, places_of_text, processors_in, SpellsLog}
+use Rattle.log_text.specs.Splits.{split_lines}
 use Rattle.log_text.specs.LogValues.{NumberedLog}
 use Rattle.value_texts.specs.declared.names.EventName.{EventName}
 use Rattle.value_texts.specs.Names.{names_on, names_in, event_names, AreNamesDistinct}
@@ -246,4 +247,6 @@ distinct_once names once m n low high same =
     omega (arith, places, low.0, high.0)
 
 pub names_distinct : (text : List ℕ) (log : NumberedLog) → SpellsLog text log → AreNamesDistinct (event_names log)
-names_distinct text log spells = subst (λ l. AreNamesDistinct (event_names l)) (sym spells.is) (distinct_once (event_names (log_of_lines spells.lines)) (names_once spells.lines 0 (processors_in spells.lines)))
+names_distinct text log spells =
+    let lines = split_lines (places_of_text text) spells.lines in
+    subst (λ l. AreNamesDistinct (event_names l)) (sym spells.is) (distinct_once (event_names (log_of_lines lines)) (names_once lines 0 (processors_in lines)))

@@ -29,6 +29,11 @@ that the log is whole; with --ended a log without it is refused, as one that was
 cut off. A line may end with ` #` and any text, which the report repeats; one
 that begins with `#` says nothing.
 
+An address is a location, read and written as a whole. A/N in its place is of the
+N bytes from A on, the lowest first, N being 1, 2, 4 or 8: all places of a log
+have a width, or none. Where places overlap, accesses are cut into pieces, which
+the numbers of the report count; `split 12` says how many lines are cut.
+
 A run that says when its stores reach memory is a log too: `P lr A R` is a load,
 `P wr A V` and `P sc A V` are stores, and lines `dr` and `last` say nothing.
 
@@ -55,7 +60,7 @@ REFUSED BadLine line 3.
 With --decide it searches for an order of all loads and stores of the log that
 explains it, and prints CONSISTENT and the order, or VIOLATION and a refutation,
 which may suppose what loads read, case by case. It supposes as many cases as
---effort says; UNDECIDED 100 means that 100 were not enough. Of the text after
+--effort says; UNDECIDED 100 means that neither was found by so many. Of the text after
 the line of the answer `tsobench verify --log` checks that it holds. --most and
 --max-unknown say nothing then.
 

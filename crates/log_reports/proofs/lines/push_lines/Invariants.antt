@@ -1,7 +1,6 @@
-use Rattle.std.proofs.Common.{◌≡◌, ◌++◌, string_bytes, take}
-use Rattle.log_text.specs.Tags.{tag_in}
-use Rattle.log_reports.specs.Lines.{log_lines_text}
+use Rattle.std.proofs.Common.{◌≡◌, ◌++◌, drop, string_bytes}
+use Rattle.log_reports.specs.Lines.{lines_text_after, log_lines_text}
 use Rattle.log_reports.proofs.lines.push_lines.Given as goal
 
 abbrev pub invariant-loop-s : goal.invariant-loop-s
-invariant-loop-s l = string_bytes l.text ≡ string_bytes l.fn.text ++ log_lines_text (tag_in l.fn.tags) (take l.s-index l.fn.shown)
+invariant-loop-s l = string_bytes l.text ++ lines_text_after l.fn.tags l.before (drop l.s-index l.fn.shown) ≡ string_bytes l.fn.text ++ log_lines_text l.fn.tags l.fn.shown

@@ -1,5 +1,4 @@
 use Rattle.std.proofs.Common.{◌∙◌, ◌++◌, ap, codes}
-use Rattle.log_text.specs.Tags.{tag_in}
 use Rattle.log_reports.specs.Lines.{log_lines_text}
 use Rattle.log_reports.specs.LogTexts.{counts_text, numbered_from, total_text, verdict_text, violation_text}
 use Rattle.log_reports.proofs.rendering.render_report.Goals as goal
@@ -8,9 +7,9 @@ pub returns : goal.returns
 returns c =
     let found = c.args.found.now in
     let findings = found.findings in
-    let violations = numbered_from (violation_text c.args.explains (tag_in found.tags) found.counts.processors) (codes "violation ") 1 in
-    let unjudged = numbered_from (λ shown. log_lines_text (tag_in found.tags) shown.items) (codes "unjudged ") 1 in
-    let said = counts_text found.counts ++ verdict_text found in
+    let violations = numbered_from (violation_text c.args.explains found.tags found.counts.processors) (codes "violation ") 1 in
+    let unjudged = numbered_from (λ shown. log_lines_text found.tags shown.items) (codes "unjudged ") 1 in
+    let said = counts_text found.tags found.counts ++ verdict_text found in
     c.in_ok-push_unjudged.ensures
     ∙ ap (λ xs. xs ++ unjudged c.deref-2.result.now)
     (c.in_ok-push_total.ensures ∙ ap (λ xs. xs ++ total_text findings)

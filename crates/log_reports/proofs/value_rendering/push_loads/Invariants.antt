@@ -1,8 +1,7 @@
 use Rattle.std.proofs.Common.{◌≡◌, ◌++◌, string_bytes, take}
 use Rattle.std.specs.List.{flat_map}
-use Rattle.log_text.specs.Tags.{tag_in}
 use Rattle.log_reports.specs.ValueTexts.{sources_text}
 use Rattle.log_reports.proofs.value_rendering.push_loads.Given as goal
 
 abbrev pub invariant-loop-sources : goal.invariant-loop-sources
-invariant-loop-sources l = string_bytes l.text ≡ string_bytes l.fn.text ++ flat_map (sources_text (tag_in l.fn.tags)) (take l.sources-index l.loads)
+invariant-loop-sources l = string_bytes l.text ≡ string_bytes l.fn.text ++ flat_map (sources_text l.fn.tags) (take l.sources-index l.loads)

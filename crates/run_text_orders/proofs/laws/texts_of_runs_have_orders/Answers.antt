@@ -1,4 +1,5 @@
-use Rattle.run_text_orders.proofs.Texts.{report_order, text_order}
+use Rattle.run_text_orders.proofs.TextOrders.{text_order}
+use Rattle.run_text_orders.proofs.Texts.{report_order}
 use Rattle.run_text_orders.proofs.laws.texts_of_runs_have_orders.Goals as goal
 
 pub returns-clause-spelled : goal.returns-clause-spelled

@@ -3,7 +3,7 @@ use Rattle.std.specs.List.{AllByRecursion, list_any}
 use Rattle.std.proofs.lemmas.List.{length-append}
 use Rattle.run_steps.proofs.NameFacts.{state_weaker}
 use Rattle.run_following.specs.KeptLines.{IsKeptOf, has_kept, line_number}
-use Rattle.run_following.specs.PlacesSaid.{widths_after}
+use Rattle.run_lines.specs.PlacesSaid.{widths_after}
 use Rattle.run_following.proofs.KeptFacts.{has_last, has_more, kept_added}
 use Rattle.run_following.proofs.followers.Follower.keep.Goals as goal
 

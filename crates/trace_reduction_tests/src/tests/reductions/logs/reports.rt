@@ -44,7 +44,23 @@ const LESS_UNKNOWN: LogOptions = LogOptions {
     form: LogForm::Lines,
 };
 
-pub(super) static CASES: [Case; 29] = [
+pub(super) static CASES: [Case; 31] = [
+    // places with widths: data of two bytes that are read one by one
+    (
+        LINES,
+        "0 st 0/2 513 # data\n0 st 4/1 1\n1 ld 4/1 1\n1 ld 1/1 0\n",
+        Answer::Violation,
+        "TSO LOG 1\nprocessors 2 operations 5 loads 2 unknown 0 left 0\nsplit 1\nVIOLATION\nviolation 1\nline 1 0 st 0/2 513 # data\nline 2 0 st 4/1 1\nline 3 1 ld 4/1 1\nline 4 1 ld 1/1 0\nviolations 1\n",
+        "",
+    ),
+    // all pieces of a load, and a swap, on one line each
+    (
+        LINES,
+        "0 ld 8/2 770\n0 st 8/1 1\n0 sw 9/1 0 4\n",
+        Answer::Violation,
+        "TSO LOG 1\nprocessors 1 operations 4 loads 3 unknown 0 left 0\nsplit 1\nVIOLATION\nviolation 1\nline 1 0 ld 8/2 770\nstored 1 first 1 line 2 last 1 line 2\nviolation 2\nline 1 0 ld 8/2 770\nstored 1 first 4 line 3 last 4 line 3\nviolations 2\n",
+        "",
+    ),
     // two violations that have no load in common
     (
         LINES,

@@ -1,0 +1,14 @@
+pub mod Members
+pub mod Pieces
+pub mod PieceValues
+pub mod Homes
+pub mod SplitRanks
+pub mod SplitReads
+pub mod Parts
+pub mod CutTraces
+pub mod FirstCells
+pub mod SplitLines
+pub mod SplitLogs
+pub mod LocationOrders
+pub mod ReadWidths
+pub mod TextWidths
